@@ -1,0 +1,13 @@
+pub mod Bounds
+pub mod Accepts
+pub mod Complete
+pub mod Sound
+pub mod Decided
+pub mod Parses
+pub mod Fields
+pub mod Readings
+pub mod Unique
+pub mod Held
+pub mod Extents
+pub mod Onward
+pub mod Quotes
