@@ -17,7 +17,8 @@ abbrev pub Divides : ℤ → ℤ → Option ℤ → Type 0
 Divides change step (Some q) = (q *ℤ step ≡ change) × Moderate q
 Divides change step None = (q : ℤ) → Moderate q → q *ℤ step ≡ change → ⊥
 
--- the same by division
+-- the same by division; there is no step 0
 abbrev pub responseOf : ℤ → ℤ → Option ℤ
 responseOf change step =
-    cond (eqb (natAbs (remZ change step)) 0 && leb (natAbs (quotZ change step)) 1000000) (Some (quotZ change step)) None
+    cond (eqb (natAbs step) 0) None
+    (cond (eqb (natAbs (remZ change step)) 0 && leb (natAbs (quotZ change step)) 1000000) (Some (quotZ change step)) None)

@@ -2,7 +2,7 @@ ghost use mathlib.Core.Path.{_≡_};
 ghost use Prim.Native.Nat.{_*_, _^_, _<_, _≤_};
 ghost use lib.ListN.{length};
 ghost use Rattle.std.specs.Slices.{found};
-ghost use Rattle.units.specs.Decimals.{placesOf, numberOf, isMinus, unsigned, wholeLength, magnitudeOf, decimalOf, busOf, Reads};
+ghost use Rattle.units.specs.Decimals.{placesOf, numberOf, isMinus, unsigned, wholeLength, magnitudeOf, decimalOf, busOf, Decimal, Form, Reads, Sign};
 use crate::Scale;
 
 // How many digits may stand behind the point.
@@ -91,12 +91,22 @@ fn magnitude(body: &[u8], places: usize) -> Option<u64>
     Some(whole + scaled(fraction, places - digits.len()))
 }
 
+// The sign joined to the size.
+fn signed_value(text: &[u8], places: usize) -> Option<i64>
+    requires { ⌜ places ≤ 9 ⌝ }
+    ensures { λ r. ⌜ r ≡ decimalOf places (now (text .entry)) ⌝ }
+{
+    let (minus, body) = split_sign(text);
+    let size = magnitude(body, places)? as i64;
+    if minus { Some(-size) } else { Some(size) }
+}
+
 // The value of a decimal: an optional minus, one to four digits, and optionally a point with one digit or more, as many
 // as the scale allows. None where the text is no such decimal.
 pub fn decimal(text: &[u8], scale: Scale) -> Option<i64>
     ensures value { λ r. ⌜ r ≡ decimalOf (placesOf scale) (now (text .entry)) ⌝ }
+    ensures form { λ r. ⌜ Reads (placesOf scale) (now (text .entry)) r ⌝ }
+    ensures sign { λ _. ⌜ ((d : Decimal) → Form (placesOf scale) d → Sign (placesOf scale) d) ⌝ }
 {
-    let (minus, body) = split_sign(text);
-    let size = magnitude(body, places(scale))? as i64;
-    if minus { Some(-size) } else { Some(size) }
+    signed_value(text, places(scale))
 }
