@@ -8,6 +8,9 @@ mod scan;
 
 pub use automaton::check;
 pub use fault::Fault;
+pub use fault::FaultDebug;
+pub use fault::FaultEq;
+pub use fault::FaultPartialEq;
 pub use field::Field;
 pub use reader::Reader;
 pub use reader::Record;

@@ -1,0 +1,10 @@
+use mathlib.Core.Path.{sym}
+use Rattle.csv.specs.Places.{held}
+use Rattle.csv.specs.Views.{piece}
+use Rattle.files.proofs.Texts.{text-none, odd-bus}
+use Rattle.files.proofs.numbers.bus_field.Needs as need
+
+pub returns-in-None : need.returns-in-None
+returns-in-None c =
+    let content = piece (c .args .field) .content in
+    sym (odd-bus (held content) (text-none content (c .in-None .ensures tt)))

@@ -1,0 +1,5 @@
+pub mod Faults
+pub mod Columns
+pub mod Numbers
+pub mod Rows
+pub mod Responses

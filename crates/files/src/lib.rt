@@ -1,0 +1,13 @@
+// Response files: what they hold, read exactly, or the refusal that names the place.
+
+mod columns;
+mod fault;
+mod numbers;
+mod responses;
+mod rows;
+mod table;
+
+pub use fault::FileFault;
+pub use fault::FileFaultFromCsv;
+pub use table::Probe;
+pub use table::Table;
