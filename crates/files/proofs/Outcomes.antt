@@ -1,0 +1,36 @@
+-- What reading a response file answers, from what opening it and reading its records answer.
+use Prim.Native.Nat.{ℕ}
+use mathlib.Core.Path.{_≡_, refl, subst}
+use mathlib.Core.List.{List}
+use Rattle.std.specs.declared.result.Result.{Result}
+use Rattle.std.specs.declared.result.Result.the-variants.{Ok, Err}
+use Rattle.csv.specs.declared.fault.Fault.{Fault}
+use Rattle.csv.specs.declared.fault.Fault.the-variants.{TooLong, Syntax}
+use Rattle.csv.specs.declared.reader.Reader.{Reader}
+use Rattle.csv.specs.Places.{Piece}
+use Rattle.csv.specs.Opening.{Opening}
+use Rattle.csv.specs.Views.{left}
+use Rattle.files.specs.declared.fault.FileFault.{FileFault}
+use Rattle.files.specs.declared.fault.FileFault.the-variants.{Bytes}
+use Rattle.files.specs.declared.table.Table.{Table}
+use Rattle.files.specs.Responses.{Outcome, Reading, long, broken, read}
+use Rattle.files.specs.Rows.{tableOf}
+
+pub unopened : (bytes : List ℕ) (t : Table) (fault : Fault) → Opening bytes (Err fault) → Reading bytes t t (Err (Bytes fault))
+unopened bytes t TooLong h = long h (refl, refl)
+unopened bytes t (Syntax i) h = broken i (h .0) (h .1) (refl, refl)
+
+opened : (bytes : List ℕ) (old new : Table) (r : Result (Unit {0}) FileFault) (reader : Reader) → Opening bytes (Ok reader) → Outcome old new r (tableOf (left reader)) → Reading bytes old new r
+opened bytes old new r reader h out =
+    let P : List (List Piece) → Type 0 = λ records. Outcome old new r (tableOf records) in
+    read (h .1 .file) (h .0) (h .1 .parse) (subst P (h .1 .records) out)
+
+pub unread : (bytes : List ℕ) (t : Table) (reader : Reader) (fault : FileFault) → Opening bytes (Ok reader) → Err fault ≡ tableOf (left reader) → Reading bytes t t (Err fault)
+unread bytes t reader fault h e =
+    let P : Result Table FileFault → Type 0 = Outcome t t (Err fault) in
+    opened bytes t t (Err fault) reader h (subst P e (refl, refl))
+
+pub filled : (bytes : List ℕ) (old new : Table) (reader : Reader) → Opening bytes (Ok reader) → Ok new ≡ tableOf (left reader) → Reading bytes old new (Ok tt)
+filled bytes old new reader h e =
+    let P : Result Table FileFault → Type 0 = Outcome old new (Ok tt) in
+    opened bytes old new (Ok tt) reader h (subst P e (refl, refl))
