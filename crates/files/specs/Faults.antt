@@ -9,7 +9,7 @@ use Rattle.csv.specs.declared.fault.Fault.the-variants.{TooLong, Syntax}
 use Rattle.refusals.specs.declared.Layer.the-variants.{File}
 use Rattle.refusals.specs.declared.Refusal.{Refusal}
 use Rattle.files.specs.declared.fault.FileFault.{FileFault}
-use Rattle.files.specs.declared.fault.FileFault.the-variants.{Bytes, Header, FieldCount, Form, Inverter, Step, Change}
+use Rattle.files.specs.declared.fault.FileFault.the-variants.{Bytes, Header, FieldCount, Form, Inverter, Step, Change, MapEntry, Unreached, ShortBuffer}
 
 abbrev pub inFile : ℕ → ℕ → Refusal
 inFile number place = record { number = number; layer = File; place = place }
@@ -23,6 +23,9 @@ refusalOf (Form at) = inFile 5 at
 refusalOf (Inverter at) = inFile 6 at
 refusalOf (Step at) = inFile 7 at
 refusalOf (Change at) = inFile 8 at
+refusalOf (MapEntry at) = inFile 19 at
+refusalOf (Unreached bus) = inFile 20 bus
+refusalOf (ShortBuffer needed) = inFile 22 needed
 
 -- a check that has to hold before what follows it counts
 abbrev pub need : {A : Type 0} → Bool → FileFault → Result A FileFault → Result A FileFault

@@ -11,6 +11,7 @@ use csv::Record;
 
 // The first two columns of a response file; the bus numbers follow.
 const PROBE: &[u8] = b"probe";
+
 const STEP: &[u8] = b"step";
 
 // Whether two texts are the same, byte by byte.
@@ -27,7 +28,11 @@ fn is_bus_name(text: &[u8], bus: usize) -> bool
 {
     let tens = b'0' + (bus / 10) as u8;
     let ones = b'0' + (bus % 10) as u8;
-    if bus < 10 { same(text, &[ones]) } else { same(text, &[tens, ones]) }
+    if bus < 10 {
+        same(text, &[ones])
+    } else {
+        same(text, &[tens, ones])
+    }
 }
 
 // Whether a text is the name of column k.

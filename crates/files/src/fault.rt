@@ -25,6 +25,12 @@ pub enum FileFault {
     Step { at: usize },
     // A change is no whole multiple of the step, or the response is beyond 1,000,000 either way.
     Change { at: usize },
+    // In a map file, a bus is not the next, a parent is no bus of the file, or a resistance is not 1 to 1,000,000.
+    MapEntry { at: usize },
+    // In a map file, a bus does not reach the substation, or lies beyond distance 1,000,000.
+    Unreached { bus: usize },
+    // A buffer is too short for a text of this length.
+    ShortBuffer { needed: usize },
 }
 
 pub impl From<Fault> for FileFault as FileFaultFromCsv {
@@ -39,7 +45,11 @@ pub impl From<Fault> for FileFault as FileFaultFromCsv {
 fn refused(number: u8, place: usize) -> Refusal
     ensures { λ r. ⌜ r ≡ record { number = number; layer = Layer.File; place = place } ⌝ }
 {
-    Refusal { number, layer: Layer::File, place }
+    Refusal {
+        number,
+        layer: Layer::File,
+        place,
+    }
 }
 
 impl FileFault {
@@ -48,14 +58,21 @@ impl FileFault {
         ensures { λ r. ⌜ r ≡ refusalOf self ⌝ }
     {
         match self {
-            FileFault::Bytes { fault: Fault::Syntax { at } } => refused(1, at),
-            FileFault::Bytes { fault: Fault::TooLong } => refused(2, 65_536),
+            FileFault::Bytes {
+                fault: Fault::Syntax { at },
+            } => refused(1, at),
+            FileFault::Bytes {
+                fault: Fault::TooLong,
+            } => refused(2, 65_536),
             FileFault::Header { at } => refused(3, at),
             FileFault::FieldCount { at } => refused(4, at),
             FileFault::Form { at } => refused(5, at),
             FileFault::Inverter { at } => refused(6, at),
             FileFault::Step { at } => refused(7, at),
             FileFault::Change { at } => refused(8, at),
+            FileFault::MapEntry { at } => refused(19, at),
+            FileFault::Unreached { bus } => refused(20, bus),
+            FileFault::ShortBuffer { needed } => refused(22, needed),
         }
     }
 }

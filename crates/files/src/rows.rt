@@ -6,8 +6,8 @@ ghost use Rattle.csv.specs.Places.{outlineOf};
 ghost use Rattle.csv.specs.Views.{left, outline, remaining};
 ghost use Rattle.files.specs.Rows.{changesFrom, unprobed, joined, rowOf, rowsOf, emptyTable, tableOf};
 use crate::FileFault;
-use crate::Table;
 use crate::Probe;
+use crate::Table;
 use crate::columns::read_header;
 use crate::numbers::read_change;
 use crate::numbers::read_inverter;
@@ -20,7 +20,11 @@ use csv::Record;
 pub(crate) fn empty_table(buses: usize) -> Table
     ensures { λ r. ⌜ r ≡ emptyTable buses ⌝ }
 {
-    Table { buses, mute: [false; 64], probes: [None; 64] }
+    Table {
+        buses,
+        mute: [false; 64],
+        probes: [None; 64],
+    }
 }
 
 // What the changes of a record give, after the meters that are mute already.
@@ -29,7 +33,10 @@ fn read_changes(record: Record<'_>, step: i64, mute: [bool; 64]) -> Result<Chang
     ensures { λ r. ⌜ r ≡ changesFrom step 0 (unprobed mute) (remaining («record» .entry)) ⌝ }
 {
     let mut rest = record;
-    let mut changes = Changes { responses: [0; 64], mute };
+    let mut changes = Changes {
+        responses: [0; 64],
+        mute,
+    };
     let mut n = 0;
     while let Some(field) = rest.field() {
         match read_change(field, step)? {
@@ -74,7 +81,11 @@ fn join(table: &Table, inverter: usize, step: i64, changes: Changes) -> Table
     let mute = changes.mute;
     let mut probes = table.probes;
     probes[inverter - 1] = Some(Probe { step, responses });
-    Table { buses: table.buses, mute, probes }
+    Table {
+        buses: table.buses,
+        mute,
+        probes,
+    }
 }
 
 // The table with the records that are still to be read.

@@ -1,0 +1,15 @@
+pub mod Ways
+pub mod Pigeonhole
+pub mod Distances
+pub mod Inverters
+pub mod Feeders
+pub mod Maps
+pub mod Blanks
+pub mod Laws
+pub mod Reach
+pub mod Tables
+pub mod Builds
+pub mod SameMaps
+pub mod Ends
+pub mod Pairing
+pub mod Alone

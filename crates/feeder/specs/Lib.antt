@@ -1,0 +1,7 @@
+pub mod Way
+pub mod Feeder
+pub mod Table
+pub mod Laws
+pub mod Build
+pub mod Sound
+pub mod View
