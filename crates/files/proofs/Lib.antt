@@ -1,3 +1,7 @@
-pub mod Outcomes
-pub mod Reading
 pub mod Texts
+pub mod Reading
+pub mod Changes
+pub mod Added
+pub mod Bounds
+pub mod Told
+pub mod Outcomes

@@ -1,20 +1,22 @@
 -- What reading a response file answers, from what opening it and reading its records answer.
 use Prim.Native.Nat.{ℕ}
-use mathlib.Core.Path.{_≡_, refl, subst}
+use mathlib.Core.Path.{_≡_, refl, sym, ap, subst, _∙_}
 use mathlib.Core.List.{List}
 use Rattle.std.specs.declared.result.Result.{Result}
 use Rattle.std.specs.declared.result.Result.the-variants.{Ok, Err}
 use Rattle.csv.specs.declared.fault.Fault.{Fault}
 use Rattle.csv.specs.declared.fault.Fault.the-variants.{TooLong, Syntax}
 use Rattle.csv.specs.declared.reader.Reader.{Reader}
-use Rattle.csv.specs.Places.{Piece}
+use Rattle.csv.specs.Grammar.{File}
+use Rattle.csv.specs.Places.{Piece, Parse, recordsOf}
 use Rattle.csv.specs.Opening.{Opening}
 use Rattle.csv.specs.Views.{left}
 use Rattle.files.specs.declared.fault.FileFault.{FileFault}
 use Rattle.files.specs.declared.fault.FileFault.the-variants.{Bytes}
 use Rattle.files.specs.declared.table.Table.{Table}
-use Rattle.files.specs.Responses.{Outcome, Reading, long, broken, read}
+use Rattle.files.specs.Responses.{Outcome, Reading, long, broken, read, FileTold}
 use Rattle.files.specs.Rows.{tableOf}
+use Rattle.files.proofs.Told.{told}
 
 pub unopened : (bytes : List ℕ) (t : Table) (fault : Fault) → Opening bytes (Err fault) → Reading bytes t t (Err (Bytes fault))
 unopened bytes t TooLong h = long h (refl, refl)
@@ -34,3 +36,8 @@ pub filled : (bytes : List ℕ) (old new : Table) (reader : Reader) → Opening 
 filled bytes old new reader h e =
     let P : Result Table FileFault → Type 0 = Outcome old new (Ok tt) in
     opened bytes old new (Ok tt) reader h (subst P e (refl, refl))
+
+-- an accepted table holds what the records of the file say
+pub told-of : (bytes : List ℕ) (new : Table) (reader : Reader) → Opening bytes (Ok reader) → Ok new ≡ tableOf (left reader) → (f : File) → Parse f bytes → FileTold new (recordsOf f)
+told-of bytes new reader h e f parse =
+    told (recordsOf f) new (ap (λ (g : File). tableOf (recordsOf g)) (h .1 .only f parse) ∙ sym (ap tableOf (h .1 .records)) ∙ sym e)

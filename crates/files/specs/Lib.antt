@@ -3,3 +3,4 @@ pub mod Columns
 pub mod Numbers
 pub mod Rows
 pub mod Responses
+pub mod Sound

@@ -1,5 +1,8 @@
 ghost use mathlib.Core.Path.{_≡_};
-ghost use Rattle.files.specs.Responses.{Reading};
+ghost use Rattle.std.specs.Vec.{made};
+ghost use Rattle.csv.specs.Grammar.{File};
+ghost use Rattle.csv.specs.Places.{Parse, recordsOf};
+ghost use Rattle.files.specs.Responses.{FileTold, Reading};
 ghost use Rattle.files.specs.Rows.{emptyTable};
 use crate::FileFault;
 use crate::FileFaultFromCsv;
@@ -18,7 +21,8 @@ impl Table {
 
     // Fills the place with what a response file holds, whatever it held; a refused file leaves it as it was.
     pub fn read(&mut self, file: &[u8]) -> Result<(), FileFault>
-        ensures { λ r. ⌜ Reading (now (file .entry)) (now (self .entry)) (now (self .exit)) r ⌝ }
+        ensures reads { λ r. ⌜ Reading (now (file .entry)) (now (self .entry)) (now (self .exit)) r ⌝ }
+        ensures told { λ r. ⌜ made r (λ _. (f : File) → Parse f (now (file .entry)) → FileTold (now (self .exit)) (recordsOf f)) ⌝ }
     {
         let mut reader = Reader::open(file)?;
         let table = read_table(&mut reader)?;
