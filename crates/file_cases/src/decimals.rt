@@ -11,7 +11,10 @@ fn signs_go_with_the_whole_value() -> Result<(), Fail> {
     check_eq(decimal(b"-1.000", Scale::Thousandths), Some(-1000))?;
     check_eq(decimal(b"-0.25", Scale::Billionths), Some(-250_000_000))?;
     check_eq(decimal(b"-0.000001", Scale::Millionths), Some(-1))?;
-    check_eq(decimal(b"9999.999999999", Scale::Billionths), Some(9_999_999_999_999))
+    check_eq(
+        decimal(b"9999.999999999", Scale::Billionths),
+        Some(9_999_999_999_999),
+    )
 }
 
 #[test]

@@ -49,6 +49,7 @@ fn next<'a>(reader: &mut Reader<'a>) -> Result<Record<'a>, Fail> {
 }
 
 const ONE: [&[u8]; 3] = [b"aaa", b"bbb", b"ccc"];
+
 const TWO: [&[u8]; 3] = [b"zzz", b"yyy", b"xxx"];
 
 #[test]
@@ -69,7 +70,9 @@ fn the_last_line_end_may_be_absent() -> Result<(), Fail> {
 
 #[test]
 fn a_header_may_come_first() -> Result<(), Fail> {
-    let mut reader = Reader::open(b"field_name,field_name,field_name\r\naaa,bbb,ccc\r\nzzz,yyy,xxx\r\n")?;
+    let mut reader = Reader::open(
+        b"field_name,field_name,field_name\r\naaa,bbb,ccc\r\nzzz,yyy,xxx\r\n",
+    )?;
     let mut header = next(&mut reader)?;
     check_eq(header.fields(), 3)?;
     check_eq(header.end(), 32)?;

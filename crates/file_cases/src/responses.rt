@@ -38,7 +38,9 @@ fn read(file: &[u8]) -> Result<Table, Fail> {
 
 #[test]
 fn a_file_of_three_buses() -> Result<(), Fail> {
-    let table = read(b"probe,step,1,2,3\r\n2,-0.500,-0.00015,-0.00025,-0.00015\r\n3,0.250,0.000075,0.000075,0.0002\r\n")?;
+    let table = read(
+        b"probe,step,1,2,3\r\n2,-0.500,-0.00015,-0.00025,-0.00015\r\n3,0.250,0.000075,0.000075,0.0002\r\n",
+    )?;
     check_eq(table.buses, 3)?;
     check_eq(probed(&table, 2)?, (-500, 300, 500))?;
     check_eq(probed(&table, 3)?, (250, 300, 300))?;
@@ -85,7 +87,10 @@ fn inverters() -> Result<(), Fail> {
 
 #[test]
 fn steps() -> Result<(), Fail> {
-    check_eq(probed(&read(b"probe,step,1\r\n1,-1.000,0")?, 1)?, (-1000, 0, 0))?;
+    check_eq(
+        probed(&read(b"probe,step,1\r\n1,-1.000,0")?, 1)?,
+        (-1000, 0, 0),
+    )?;
     refused(b"probe,step,1\r\n1,1.001,0", 7, 16)?;
     refused(b"probe,step,1\r\n1,-0.000,0", 7, 16)?;
     refused(b"probe,step,1\r\n1,0.2505,0", 5, 16)?;
@@ -98,7 +103,10 @@ fn changes() -> Result<(), Fail> {
     refused(b"probe,step,1\r\n1,0.1,\"\"", 5, 20)?;
     refused(b"probe,step,1\r\n1,0.1,0.0000000001", 5, 20)?;
     refused(b"probe,step,1\r\n1,0.001,0.001000001", 8, 22)?;
-    check_eq(probed(&read(b"probe,step,1\r\n1,0.001,-0.001")?, 1)?, (1, -1_000_000, 0))?;
+    check_eq(
+        probed(&read(b"probe,step,1\r\n1,0.001,-0.001")?, 1)?,
+        (1, -1_000_000, 0),
+    )?;
     refused(b"probe,step,1,2\r\n1,0.1,x,y", 5, 22)
 }
 

@@ -2,6 +2,7 @@
 use Prim.Native.Nat.{ℕ}
 use mathlib.Core.Path.{_≡_, refl, sym, ap, subst, _∙_}
 use mathlib.Core.List.{List}
+use native.Mathlib.Omega.{arith}
 use Rattle.std.specs.declared.result.Result.{Result}
 use Rattle.std.specs.declared.result.Result.the-variants.{Ok, Err}
 use Rattle.csv.specs.declared.fault.Fault.{Fault}
@@ -16,6 +17,8 @@ use Rattle.files.specs.declared.fault.FileFault.the-variants.{Bytes}
 use Rattle.files.specs.declared.table.Table.{Table}
 use Rattle.files.specs.Responses.{Outcome, Reading, long, broken, read, FileTold}
 use Rattle.files.specs.Rows.{tableOf}
+use Rattle.files.specs.Sound.{Sound}
+use Rattle.files.proofs.Bounds.{sound}
 use Rattle.files.proofs.Told.{told}
 
 pub unopened : (bytes : List ℕ) (t : Table) (fault : Fault) → Opening bytes (Err fault) → Reading bytes t t (Err (Bytes fault))
@@ -41,3 +44,26 @@ filled bytes old new reader h e =
 pub told-of : (bytes : List ℕ) (new : Table) (reader : Reader) → Opening bytes (Ok reader) → Ok new ≡ tableOf (left reader) → (f : File) → Parse f bytes → FileTold new (recordsOf f)
 told-of bytes new reader h e f parse =
     told (recordsOf f) new (ap (λ (g : File). tableOf (recordsOf g)) (h .1 .only f parse) ∙ sym (ap tableOf (h .1 .records)) ∙ sym e)
+
+never : {A : Type 0} (u : Unit {0}) (fault : FileFault) → _≡_ {A = Result (Unit {0}) FileFault} (Ok u) (Err fault) → A
+never u fault e = absurd (let z : _≡_ {A = ℕ} 0 1 = cc in omega arith)
+
+-- an accepted table is within its bounds
+pub reading-sound : (bytes : List ℕ) (old new : Table) (u : Unit {0}) → Reading bytes old new (Ok u) → Sound new
+reading-sound bytes old new u (long h out) = never u _ (out .0)
+reading-sound bytes old new u (broken i h k out) = never u _ (out .0)
+reading-sound bytes old new u (read f h parse out) = go (tableOf (recordsOf f)) refl out
+  where
+    go : (o : Result Table FileFault) → tableOf (recordsOf f) ≡ o → Outcome old new (Ok u) o → Sound new
+    go (Ok table) e out = subst Sound (sym (out .1)) (sound (recordsOf f) table e)
+    go (Err fault) e out = never u fault (out .0)
+
+-- a refusal leaves the place as it was
+pub reading-refused : (bytes : List ℕ) (old new : Table) (fault : FileFault) → Reading bytes old new (Err fault) → Reading bytes old old (Err fault)
+reading-refused bytes old new fault (long h out) = long h (out .0, refl)
+reading-refused bytes old new fault (broken i h k out) = broken i h k (out .0, refl)
+reading-refused bytes old new fault (read f h parse out) = read f h parse (go (tableOf (recordsOf f)) out)
+  where
+    go : (o : Result Table FileFault) → Outcome old new (Err fault) o → Outcome old old (Err fault) o
+    go (Ok table) out = never tt fault (sym (out .0))
+    go (Err other) out = (out .0, refl)

@@ -16,6 +16,7 @@ pub returns : need.returns
 returns c =
     let opening = c .in-Continue-reader .ensures tt in
     let table = c .in-Continue-table .ensures tt in
-    record
-    { reads = filled (c .args .file .now) (c .args .self .now) (c .in-Continue-table .table) (c .in-Continue-reader .reader) opening table
-    ; told = told-of (c .args .file .now) (c .in-Continue-table .table) (c .in-Continue-reader .reader) opening table }
+    record {
+      reads = filled (c .args .file .now) (c .args .self .now) (c .in-Continue-table .table) (c .in-Continue-reader .reader) opening table;
+      told = told-of (c .args .file .now) (c .in-Continue-table .table) (c .in-Continue-reader .reader) opening table;
+    }

@@ -1,0 +1,5 @@
+pub mod Facts
+pub mod Answers
+pub mod Refusals
+pub mod TableFacts
+pub mod TableLoading

@@ -1,0 +1,16 @@
+-- The number, the layer and the place of each fault of a source.
+use Prim.Native.Nat.{ℕ}
+use Rattle.refusals.specs.declared.Refusal.{Refusal}
+use Rattle.refusals.specs.declared.Layer.{Layer}
+use Rattle.refusals.specs.declared.Layer.the-variants.{Source}
+use Rattle.probing.specs.declared.fault.SourceFault.{SourceFault}
+use Rattle.probing.specs.declared.fault.SourceFault.the-variants.{NoInverter, BadStep, Unreadable, OffSchedule}
+
+abbrev pub ofSource : ℕ → ℕ → Refusal
+ofSource number place = record { number = number; layer = Source; place = place }
+
+abbrev pub refusalOf : SourceFault → Refusal
+refusalOf (NoInverter bus) = ofSource 9 bus
+refusalOf (BadStep inverter) = ofSource 10 inverter
+refusalOf (Unreadable bus) = ofSource 12 bus
+refusalOf (OffSchedule inverter) = ofSource 13 inverter
