@@ -13,6 +13,7 @@ use lib.IntN.{ℤ, pos, negsuc, _+ℤ_, _-ℤ_, _*ℤ_, negℤ, natAbs, *ℤ-zer
 use Rattle.std.proofs.shelf.Signed.{ints}
 use Rattle.std.proofs.shelf.Bits.{mul-le}
 use Rattle.std.proofs.shelf.Tests.{cases-lt, cases-eq, cases-bool, cond-true, cond-false, leb-true, eq-eqb, ne-eqb, eqb-true, and-parts}
+use Rattle.units.proofs.Division.{abs-times}
 use Rattle.probing.specs.Facts.{Facts, Bounded, metered, voltage, sumTo, share, replaced, withSettings, withSetting}
 use Rattle.probing.specs.Answers.{admissible, onSchedule}
 
@@ -99,20 +100,10 @@ voltage-moved f bounds m to n there zeroed =
 
 -- bounds
 
-abs-neg : (n : ℕ) → natAbs (negℤ (pos n)) ≡ n
-abs-neg zero = refl
-abs-neg (suc n) = refl
-
-pub abs-product : (a b : ℤ) → natAbs (a *ℤ b) ≡ natAbs a * natAbs b
-abs-product (pos a) (pos b) = refl
-abs-product (pos a) (negsuc b) = abs-neg (a * suc b)
-abs-product (negsuc a) (pos b) = abs-neg (suc a * b)
-abs-product (negsuc a) (negsuc b) = refl
-
 pub share-bounded : (f : Facts) → Bounded f → (n k : ℕ) → natAbs (share f n k) ≤ 1000000000
 share-bounded f bounds n k =
     elim (cases-bool (f .inverter k)) [
-      | inl there ↦ subst (λ z. natAbs z ≤ 1000000000) (sym (cond-true _ _ _ there)) (omega (arith, abs-product (f .response n k) (f .setting k), mul-le (natAbs (f .response n k)) (natAbs (f .setting k)) 1000000 1000 (bounds .responses n k) (bounds .settings k)))
+      | inl there ↦ subst (λ z. natAbs z ≤ 1000000000) (sym (cond-true _ _ _ there)) (omega (arith, abs-times (f .response n k) (f .setting k), mul-le (natAbs (f .response n k)) (natAbs (f .setting k)) 1000000 1000 (bounds .responses n k) (bounds .settings k)))
       | inr none ↦ subst (λ z. natAbs z ≤ 1000000000) (sym (cond-false _ _ _ none)) (omega arith)
     ]
 

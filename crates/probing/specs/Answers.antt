@@ -32,6 +32,7 @@ andThen (Err e) next = Err e
 abbrev pub admissible : ℤ → Bool
 admissible step = leb 1 (natAbs step) && leb (natAbs step) 1000
 
+-- is inverter m on its schedule?
 abbrev pub onSchedule : Facts → ℕ → Bool
 onSchedule f m = eqb (natAbs (f .setting m)) 0
 
@@ -45,6 +46,7 @@ commandOf f m step =
     firstOf ((not (f .inverter m), NoInverter m) ∷ (not (admissible step), BadStep m) ∷ (not (onSchedule f m), OffSchedule m) ∷ [])
     (Ok tt)
 
+-- the facts behind a command
 abbrev pub commanded : Facts → ℕ → ℤ → Facts
 commanded f m step = left (commandOf f m step) (withSetting f m step) f
 
@@ -52,6 +54,7 @@ commanded f m step = left (commandOf f m step) (withSetting f m step) f
 abbrev pub withdrawOf : Facts → ℕ → Result (Unit {0}) SourceFault
 withdrawOf f m = firstOf ((not (f .inverter m), NoInverter m) ∷ []) (Ok tt)
 
+-- the facts behind a withdrawal
 abbrev pub withdrawn : Facts → ℕ → Facts
 withdrawn f m = left (withdrawOf f m) (withSetting f m (pos 0)) f
 

@@ -6,9 +6,11 @@ use Rattle.refusals.specs.declared.Layer.the-variants.{Source}
 use Rattle.probing.specs.declared.fault.SourceFault.{SourceFault}
 use Rattle.probing.specs.declared.fault.SourceFault.the-variants.{NoInverter, BadStep, Unreadable, OffSchedule}
 
+-- a refusal of the layer "source"
 abbrev pub ofSource : ℕ → ℕ → Refusal
 ofSource number place = record { number = number; layer = Source; place = place }
 
+-- each fault's number and place
 abbrev pub refusalOf : SourceFault → Refusal
 refusalOf (NoInverter bus) = ofSource 9 bus
 refusalOf (BadStep inverter) = ofSource 10 inverter

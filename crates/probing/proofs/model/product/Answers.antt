@@ -6,11 +6,11 @@ use mir.Val.{SFits}
 use lib.IntN.{ℤ, pos, negsuc, _*ℤ_, natAbs}
 use Rattle.std.proofs.shelf.Bits.{mul-le}
 use Rattle.std.proofs.shelf.Signed.{toZ-ofZ}
-use Rattle.probing.proofs.Voltages.{abs-product}
+use Rattle.units.proofs.Division.{abs-times}
 use Rattle.probing.proofs.model.product.Needs as need
 
 small : (a b : ℤ) → natAbs a ≤ 1000000 → natAbs b ≤ 1000 → natAbs (a *ℤ b) ≤ 1000000000
-small a b h k = omega (arith, abs-product a b, mul-le (natAbs a) (natAbs b) 1000000 1000 h k)
+small a b h k = omega (arith, abs-times a b, mul-le (natAbs a) (natAbs b) 1000000 1000 h k)
 
 fitting : (z : ℤ) → natAbs z ≤ 1000000000 → SFits w64 z
 fitting (pos n) h = record { sfits = omega arith }

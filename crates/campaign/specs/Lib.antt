@@ -1,0 +1,5 @@
+pub mod Refusals
+pub mod Columns
+pub mod Relations
+pub mod History
+pub mod Probes
