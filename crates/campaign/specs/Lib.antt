@@ -3,3 +3,4 @@ pub mod Columns
 pub mod Relations
 pub mod History
 pub mod Probes
+pub mod Drawings

@@ -1,12 +1,17 @@
 // A probing campaign: steps that must be withdrawn, the columns that are collected, and what every history keeps.
 
 mod calls;
+mod drawing_fault;
 mod fault;
 mod opening;
 mod state;
 mod steps;
 mod survey;
 
+pub use drawing_fault::DrawingFault;
+pub use drawing_fault::DrawingFaultDebug;
+pub use drawing_fault::DrawingFaultEq;
+pub use drawing_fault::DrawingFaultPartialEq;
 pub use fault::CampaignFault;
 pub use fault::CampaignFaultDebug;
 pub use fault::CampaignFaultEq;

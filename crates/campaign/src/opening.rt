@@ -1,4 +1,5 @@
 ghost use mathlib.Core.Path.{_≡_};
+ghost use Rattle.campaign.specs.Drawings.{Campaign-law};
 ghost use Rattle.campaign.specs.History.{AnyLook, Law};
 ghost use Rattle.campaign.specs.Relations.{inverterList, zeros, noColumns, openingOf};
 use crate::state::Campaign;
@@ -49,11 +50,14 @@ fn new_campaign<S: Source>(source: &S) -> Campaign
 }
 
 // Opens a campaign on a source: its buses and inverters, no column and no outstanding step. Every history of calls from
-// here on keeps the law: each inverter has the setting that it has now, but for an outstanding step's; no other fact
-// changes; each column present is the source's responses to its inverter; and what was collected stays.
+// here on keeps the law of the campaign: each inverter has the setting that it has now, but for an outstanding step's; a
+// drawing, once all is collected, is refused exactly when no feeder of its kind yields the source's responses; and a drawn
+// feeder yields them all, with the fewest buses, alone but for unmetered numbers. Besides, no other fact changes, each
+// column present is the source's responses to its inverter, and what was collected stays.
 pub fn open_campaign<S: Source>(source: &S) -> Campaign
     ensures opened { λ r. ⌜ r ≡ openingOf (S·Source .facts (now (source .entry))) ⌝ }
-    ensures law { λ r. ⌜ Law AnyLook (S·Source .facts (now (source .entry))) r ⌝ }
+    ensures law { λ r. ⌜ Campaign-law (S·Source .facts (now (source .entry))) r ⌝ }
+    ensures keeps { λ r. ⌜ Law AnyLook (S·Source .facts (now (source .entry))) r ⌝ }
 {
     new_campaign(source)
 }
