@@ -4,5 +4,4 @@ pub mod Law
 pub mod Stepping
 pub mod Rising
 pub mod Looks
-pub mod Drawn
 pub mod Whole

@@ -1,6 +1,6 @@
 -- The law of the campaign, with its drawings.
 use Prim.Native.Nat.{ℕ, zero, suc, _+_, _-_, _≤_, _<_}
-use mathlib.Core.Path.{_≡_, refl, sym, ap, subst, _∙_, fun-ext}
+use mathlib.Core.Path.{_≡_, refl, sym, ap, subst, _∙_}
 use mathlib.Core.Logic.{_⊎_, inl, inr, ⊎-elim}
 use mathlib.Core.Bool.{Bool, true, false, not, _&&_}
 use mathlib.Core.List.{List}
@@ -20,6 +20,7 @@ use Rattle.feeder.specs.declared.kind.Kind.the-variants.{Complete, Reduced}
 use Rattle.feeder.specs.declared.map.Map.{Map}
 use Rattle.feeder.specs.Table.{Table, NoFeeder, Drawn}
 use Rattle.feeder.specs.View.{linesOf, meteredOf, DrawnMap}
+use Rattle.feeder.proofs.Agreeing.{Agree, nowhere-to, drawn-map-to}
 use Rattle.probing.specs.Facts.{Facts, Bounded, metered, withSettings}
 use Rattle.probing.specs.Answers.{lowest}
 use Rattle.probing.proofs.Readings.{lowest-none, lowest-more, lowest-here, lowest-stays, lowest-fails, lowest-empty}
@@ -32,7 +33,6 @@ use Rattle.campaign.specs.History.{Calls, collectedFor, History, Kept}
 use Rattle.campaign.specs.Drawings.{columnsOf, missing, bare, Moderate, Draws, incomplete, unequipped, nowhere, drawn, Drawing, Looks, responsesOf, Held, Campaign-law}
 use Rattle.campaign.proofs.Lists.{same-buses, same-inverter, same-has}
 use Rattle.campaign.proofs.Law.{kept}
-use Rattle.campaign.proofs.Drawn.{nowhere-entries, drawn-entries}
 
 -- the lowest that passes passes, and is within
 abbrev Passes : (ℕ → Bool) → ℕ → ℕ → Type 0
@@ -71,9 +71,6 @@ module _ (f₀ : Facts) (bounds : Bounded f₀) {calls : Calls Drawing} {f : Fac
       (λ n. n ∙ sym (⊎-elim (λ t. absurd (both-ways _ n (same-inverter f₀ c same-source m t))) (λ e. e) (cases-bool (hasInverter c m))))
       (cases-bool (f₀ .inverter m))
 
-  inverters : f₀ .inverter ≡ hasInverter c
-  inverters = fun-ext has
-
   -- a present column is the source's responses
   column : (n m : ℕ) → present c m ≡ true → 1 ≤ n → n ≤ c .buses → entry c n m ≡ f₀ .response n m
   column n m p l h =
@@ -93,28 +90,12 @@ module _ (f₀ : Facts) (bounds : Bounded f₀) {calls : Calls Drawing} {f : Fac
       }
 
   -- the columns, all present, and the source's responses are one table to a drawing
-  agree : missing c ≡ None → (n m : ℕ) → (0 < n) × (n ≤ c .buses) → ((0 < m) × (m ≤ c .buses)) × (hasInverter c m ≡ true) → f₀ .response n m ≡ entry c n m
-  agree e n m p q = sym (column n m (all-present e m (q .0 .0) (q .0 .1) (q .1)) (p .0) (p .1))
-
-  table : ℕ → (ℕ → Bool) → Table
-  table N h = record { metered = N; has = h; entry = f₀ .response }
-
-  to-source : (P : Table → Type 0) → P (record { metered = c .buses; has = hasInverter c; entry = f₀ .response }) → P (responsesOf f₀)
-  to-source P h =
-      subst (λ (N : ℕ). P (record { metered = N; has = f₀ .inverter; entry = f₀ .response })) (sym buses)
-      (subst (λ (g : ℕ → Bool). P (record { metered = c .buses; has = g; entry = f₀ .response })) (sym inverters) h)
-
-  from-source : (P : Table → Type 0) → P (responsesOf f₀) → P (record { metered = c .buses; has = hasInverter c; entry = f₀ .response })
-  from-source P h =
-      subst (λ (g : ℕ → Bool). P (record { metered = c .buses; has = g; entry = f₀ .response })) inverters
-      (subst (λ (N : ℕ). P (record { metered = N; has = f₀ .inverter; entry = f₀ .response })) buses h)
-
-  drawn-source : (kind : Kind) (map : Map) → missing c ≡ None → DrawnMap kind (columnsOf c) map → DrawnMap kind (responsesOf f₀) map
-  drawn-source kind map e (count, d) =
-      (count ∙ sym buses, to-source (λ (T : Table). Drawn kind T (linesOf map)) (drawn-entries kind (c .buses) (hasInverter c) (entry c) (f₀ .response) (agree e) (linesOf map) d))
-
-  nowhere-source : (kind : Kind) → missing c ≡ None → NoFeeder kind (columnsOf c) → NoFeeder kind (responsesOf f₀)
-  nowhere-source kind e none = to-source (NoFeeder kind) (nowhere-entries kind (c .buses) (hasInverter c) (entry c) (f₀ .response) (agree e) none)
+  agree : missing c ≡ None → Agree (columnsOf c) (responsesOf f₀)
+  agree e =
+      record
+      { metered = sym buses
+      ; has = λ m p. sym (has m)
+      ; entries = λ n m p q. column n m (all-present e m (q .0 .0) (q .0 .1) (q .1)) (p .0) (p .1) }
 
   -- a metered bus without an inverter is in no reduced feeder
   bare-nowhere : (kind : Kind) (n : ℕ) → bare kind c ≡ Some n → NoFeeder kind (responsesOf f₀)
@@ -127,15 +108,15 @@ module _ (f₀ : Facts) (bounds : Bounded f₀) {calls : Calls Drawing} {f : Fac
       (isErr answer ≡ true → NoFeeder kind (responsesOf f₀)) × (NoFeeder kind (responsesOf f₀) → isErr answer ≡ true)
   refused-source kind before after answer all (incomplete m e) = absurd (let z : _≡_ {A = ℕ} 0 1 = cc in omega arith)
   refused-source kind before after answer all (unequipped n e b) = (λ _. bare-nowhere kind n b, λ _. refl)
-  refused-source kind before after answer all (nowhere e b none) = (λ _. nowhere-source kind e (none moderate), λ _. refl)
+  refused-source kind before after answer all (nowhere e b none) = (λ _. nowhere-to kind (agree e) (none moderate), λ _. refl)
   refused-source kind before after answer all (drawn new e b d) =
-      (λ h. absurd (let z : _≡_ {A = ℕ} 0 1 = cc in omega arith), λ none. absurd (let g = drawn-source kind new e d .1 in none (linesOf new) (g .kind) (g .yields)))
+      (λ h. absurd (let z : _≡_ {A = ℕ} 0 1 = cc in omega arith), λ none. absurd (let g = drawn-map-to kind (agree e) new d .1 in none (linesOf new) (g .kind) (g .yields)))
 
   accepted-source : (kind : Kind) (before after : Map) (answer : Result (Unit {0}) DrawingFault) → Draws c kind before answer after → answer ≡ Ok tt → DrawnMap kind (responsesOf f₀) after
   accepted-source kind before after answer (incomplete m e) h = absurd (let z : _≡_ {A = ℕ} 0 1 = cc in omega arith)
   accepted-source kind before after answer (unequipped n e b) h = absurd (let z : _≡_ {A = ℕ} 0 1 = cc in omega arith)
   accepted-source kind before after answer (nowhere e b none) h = absurd (let z : _≡_ {A = ℕ} 0 1 = cc in omega arith)
-  accepted-source kind before after answer (drawn new e b d) h = drawn-source kind new e d
+  accepted-source kind before after answer (drawn new e b d) h = drawn-map-to kind (agree e) new d
 
   -- after a collection for each inverter no column is missing
   all-collected : ((m : ℕ) → f₀ .inverter m ≡ true → collectedFor m calls ≡ true) → missing c ≡ None

@@ -13,3 +13,4 @@ pub mod SameMaps
 pub mod Ends
 pub mod Pairing
 pub mod Alone
+pub mod Agreeing
