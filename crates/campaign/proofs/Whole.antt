@@ -92,10 +92,11 @@ module _ (f₀ : Facts) (bounds : Bounded f₀) {calls : Calls Drawing} {f : Fac
   -- the columns, all present, and the source's responses are one table to a drawing
   agree : missing c ≡ None → Agree (columnsOf c) (responsesOf f₀)
   agree e =
-      record
-      { metered = sym buses
-      ; has = λ m p. sym (has m)
-      ; entries = λ n m p q. column n m (all-present e m (q .0 .0) (q .0 .1) (q .1)) (p .0) (p .1) }
+      record {
+        metered = sym buses;
+        has = λ m p. sym (has m);
+        entries = λ n m p q. column n m (all-present e m (q .0 .0) (q .0 .1) (q .1)) (p .0) (p .1);
+      }
 
   -- a metered bus without an inverter is in no reduced feeder
   bare-nowhere : (kind : Kind) (n : ℕ) → bare kind c ≡ Some n → NoFeeder kind (responsesOf f₀)

@@ -34,17 +34,19 @@ module _ {S T : Table} (a : Agree S T) where
 
 pub agree-back : {S T : Table} → Agree S T → Agree T S
 agree-back a =
-    record
-    { metered = sym (a .metered)
-    ; has = λ m p. sym (a .has m (metered-from a p))
-    ; entries = λ n m p q. sym (a .entries n m (metered-from a p) (inverter-from a q)) }
+    record {
+      metered = sym (a .metered);
+      has = λ m p. sym (a .has m (metered-from a p));
+      entries = λ n m p q. sym (a .entries n m (metered-from a p) (inverter-from a q));
+    }
 
 pub yields-to : {S T : Table} → Agree S T → (F : List Line) → Yields S F → Yields T F
 yields-to a F y =
-    record
-    { feeder = y .feeder
-    ; metered = omega (arith, a .metered, y .metered)
-    ; responses = λ n m p q. sym (a .entries n m (metered-from a p) (inverter-from a q)) ∙ y .responses n m (metered-from a p) (inverter-from a q) }
+    record {
+      feeder = y .feeder;
+      metered = omega (arith, a .metered, y .metered);
+      responses = λ n m p q. sym (a .entries n m (metered-from a p) (inverter-from a q)) ∙ y .responses n m (metered-from a p) (inverter-from a q);
+    }
 
 pub kind-to : (K : Kind) {S T : Table} → Agree S T → (F : List Line) → OfKind K S F → OfKind K T F
 kind-to Complete a F (count, ends) = (count ∙ a .metered, λ b e. inverter-to a (ends b e))
@@ -58,12 +60,13 @@ lowest-back a G l = record { inverter = inverter-from a (l .inverter); below = l
 
 pub drawn-to : (K : Kind) {S T : Table} → Agree S T → (G : List Line) → Drawn K S G → Drawn K T G
 drawn-to K {S} {T} a G g =
-    record
-    { kind = kind-to K a G (g .kind)
-    ; yields = yields-to a G (g .yields)
-    ; fewest = λ F k y. g .fewest F (kind-to K (agree-back a) F k) (yields-to (agree-back a) F y)
-    ; alone = λ F k y e. subst (λ (n : ℕ). SameButNumbers n G F) (a .metered) (g .alone F (kind-to K (agree-back a) F k) (yields-to (agree-back a) F y) e)
-    ; numbered = λ c b i j p q r s t. g .numbered c b i j (omega (arith, a .metered)) q r (lowest-back a G s) (lowest-back a G t) }
+    record {
+      kind = kind-to K a G (g .kind);
+      yields = yields-to a G (g .yields);
+      fewest = λ F k y. g .fewest F (kind-to K (agree-back a) F k) (yields-to (agree-back a) F y);
+      alone = λ F k y e. subst (λ (n : ℕ). SameButNumbers n G F) (a .metered) (g .alone F (kind-to K (agree-back a) F k) (yields-to (agree-back a) F y) e);
+      numbered = λ c b i j p q r s t. g .numbered c b i j (omega (arith, a .metered)) q r (lowest-back a G s) (lowest-back a G t);
+    }
 
 pub drawn-map-to : (K : Kind) {S T : Table} → Agree S T → (m : Map) → DrawnMap K S m → DrawnMap K T m
 drawn-map-to K a m (count, g) = (count ∙ a .metered, drawn-to K a (linesOf m) g)

@@ -1,0 +1,7 @@
+use mathlib.Core.Path.{refl}
+use Rattle.drawing.specs.Responses.{entriesOf}
+use Rattle.drawing.proofs.responses.Responses.has_inverter.Needs as need
+
+pub returns : need.returns
+unfolding entriesOf
+returns c = refl
