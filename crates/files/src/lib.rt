@@ -2,6 +2,7 @@
 
 mod columns;
 mod fault;
+mod maps;
 mod numbers;
 mod responses;
 mod rows;
@@ -9,5 +10,7 @@ mod table;
 
 pub use fault::FileFault;
 pub use fault::FileFaultFromCsv;
+pub use maps::read_map;
+pub use maps::write_map;
 pub use table::Probe;
 pub use table::Table;

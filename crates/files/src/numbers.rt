@@ -14,7 +14,7 @@ use units::decimal;
 use units::response;
 
 // The bus number that a field holds.
-fn bus_field(field: Field<'_>) -> Option<usize>
+pub(crate) fn bus_field(field: Field<'_>) -> Option<usize>
     ensures { λ r. ⌜ r ≡ busOf (held (piece (field .entry) .content)) ⌝ }
 {
     match field.text() {
@@ -24,7 +24,7 @@ fn bus_field(field: Field<'_>) -> Option<usize>
 }
 
 // The decimal that a field holds.
-fn decimal_field(field: Field<'_>, scale: Scale) -> Option<i64>
+pub(crate) fn decimal_field(field: Field<'_>, scale: Scale) -> Option<i64>
     ensures { λ r. ⌜ r ≡ decimalOf (placesOf scale) (held (piece (field .entry) .content)) ⌝ }
 {
     match field.text() {

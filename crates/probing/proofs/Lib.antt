@@ -2,3 +2,6 @@ pub mod Readings
 pub mod Voltages
 pub mod Probes
 pub mod Settings
+pub mod Lines
+pub mod Entries
+pub mod Remaking

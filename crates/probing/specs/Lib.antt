@@ -3,3 +3,5 @@ pub mod Answers
 pub mod Refusals
 pub mod TableFacts
 pub mod TableLoading
+pub mod LineFacts
+pub mod LineMaking

@@ -4,7 +4,7 @@ use Rattle.refusals.specs.declared.Refusal.{Refusal}
 use Rattle.refusals.specs.declared.Layer.{Layer}
 use Rattle.refusals.specs.declared.Layer.the-variants.{Source}
 use Rattle.probing.specs.declared.fault.SourceFault.{SourceFault}
-use Rattle.probing.specs.declared.fault.SourceFault.the-variants.{NoInverter, BadStep, Unreadable, OffSchedule}
+use Rattle.probing.specs.declared.fault.SourceFault.the-variants.{NoInverter, BadStep, Unreadable, OffSchedule, MapSize, InverterEntry, StandingCount, StandingEntry}
 
 -- a refusal of the layer "source"
 abbrev pub ofSource : ℕ → ℕ → Refusal
@@ -16,3 +16,7 @@ refusalOf (NoInverter bus) = ofSource 9 bus
 refusalOf (BadStep inverter) = ofSource 10 inverter
 refusalOf (Unreadable bus) = ofSource 12 bus
 refusalOf (OffSchedule inverter) = ofSource 13 inverter
+refusalOf (MapSize buses) = ofSource 21 buses
+refusalOf (InverterEntry index) = ofSource 21 index
+refusalOf (StandingCount length) = ofSource 21 length
+refusalOf (StandingEntry index) = ofSource 21 index

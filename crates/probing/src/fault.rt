@@ -14,6 +14,14 @@ pub enum SourceFault {
     Unreadable { bus: usize },
     // The inverter's setting is not 0.
     OffSchedule { inverter: usize },
+    // The map has no bus, or more than 64.
+    MapSize { buses: usize },
+    // The inverter at the index of the list is no bus of the map, or is listed before.
+    InverterEntry { index: usize },
+    // There are not as many standing voltages as buses.
+    StandingCount { length: usize },
+    // The standing voltage at the index of the list is beyond 1,000,000,000 either way.
+    StandingEntry { index: usize },
 }
 
 impl SourceFault {
@@ -25,6 +33,10 @@ impl SourceFault {
             SourceFault::BadStep { inverter } => refused(10, inverter),
             SourceFault::Unreadable { bus } => refused(12, bus),
             SourceFault::OffSchedule { inverter } => refused(13, inverter),
+            SourceFault::MapSize { buses } => refused(21, buses),
+            SourceFault::InverterEntry { index } => refused(21, index),
+            SourceFault::StandingCount { length } => refused(21, length),
+            SourceFault::StandingEntry { index } => refused(21, index),
         }
     }
 }
