@@ -1,31 +1,19 @@
 -- What the last check tells of a map's lines.
-use mathlib.Core.Path.{_≡_, refl, sym, ap, subst, _∙_}
+use mathlib.Core.Path.{_≡_, sym, subst}
 use mathlib.Core.List.{List}
-use mathlib.Core.Logic.{_⊎_, inl, inr, ⊎-elim}
-use mathlib.Core.Bool.{Bool, true, false}
-use Prim.Native.Nat.{ℕ, _+_, _≤_, _<_}
+use mathlib.Core.Logic.{⊎-elim}
+use Prim.Native.Nat.{ℕ, _+_, _<_}
 use native.Mathlib.Omega.{arith}
-use lib.IntN.{pos}
-use lib.ListN.{length}
-use Rattle.std.proofs.shelf.Tests.{cases-eq, cases-lt, cases-bool, true≢false}
+use Rattle.std.proofs.shelf.Tests.{cases-eq}
 use Rattle.feeder.specs.declared.line.Line.{Line}
 use Rattle.feeder.specs.declared.map.Map.{Map}
-use Rattle.feeder.specs.Feeder.{Bus, End}
-use Rattle.feeder.specs.View.{linesOf, meteredOf, Stands}
+use Rattle.feeder.specs.Feeder.{End}
+use Rattle.feeder.specs.View.{linesOf, meteredOf}
 use Rattle.feeder.proofs.Maps.{map-stands}
-use Rattle.drawing.specs.Seats.{Entries, Meter, Inverter}
+use Rattle.drawing.specs.Seats.{Entries, Inverter}
 use Rattle.drawing.specs.Checks.{SameColumn, SameResponses, BareEnd, EndsStand}
 use Rattle.drawing.specs.Yielded.{Yielded}
-
--- whether a bus is an inverter is decided
-pub decided : (E : Entries) (b : ℕ) → Inverter E b ⊎ (Inverter E b → ⊥)
-decided E b = ⊎-elim (λ p. ⊎-elim (λ l. inr (λ i. past l (i .0 .1))) (λ l. ⊎-elim (λ h. inl ((p, l), h)) (λ h. inr (λ i. true≢false (sym (i .1) ∙ h))) (cases-bool (E .has b))) (cases-lt (E .metered) b)) (λ z. inr (λ i. none z (i .0 .0))) (cases-lt 0 b)
-  where
-    past : E .metered < b → b ≤ E .metered → ⊥
-    past l k = omega arith
-
-    none : b ≤ 0 → 0 < b → ⊥
-    none l k = omega arith
+use Rattle.drawing.proofs.Exact.{decided}
 
 -- one more bus that is no bare end
 pub ends-more : (E : Entries) (F : List Line) (i : ℕ) → ((b : ℕ) → b < i → End F b → Inverter E b) → (BareEnd E F i → ⊥) → (b : ℕ) → b < i + 1 → End F b → Inverter E b

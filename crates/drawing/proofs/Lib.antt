@@ -15,3 +15,5 @@ mod Wirings
 mod Checked
 mod Outcomes
 pub mod Copying
+mod Certified
+mod CaseProofs

@@ -41,9 +41,6 @@ module _ (last : Seat) (m above : ℕ) (passed : above ≡ cond (eqb (last .inve
     pub seat-after : (v : ℕ) → BranchAfter E s m above v → SeatAfter E s last (record { inverter = m; distance = v })
     seat-after v B = record { later = above-later v (B .farther); branch = B .branch; first = first }
       where
-        next : Seat
-        next = record { inverter = m; distance = v }
-
         same : (u : ℕ) → v ≤ u → Later (record { inverter = m; distance = v }) m u ⊎ ((m ≡ m) × (v ≡ u))
         same u l = ⊎-elim (λ e. inr (refl, e)) (λ n. inl (inr (refl, omega arith))) (cases-eq v u)
 

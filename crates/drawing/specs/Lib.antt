@@ -6,3 +6,4 @@ pub mod Places
 pub mod Seating
 pub mod Checks
 pub mod Copies
+pub mod Cases

@@ -7,7 +7,9 @@ mod responses;
 mod seat;
 mod seats;
 mod wiring;
+mod worked;
 
 pub use campaigns::draw_campaign;
 pub use columns::Columns;
 pub use drawing::draw;
+pub use worked::worked_cases_stand;

@@ -4,7 +4,7 @@ ghost use Prim.Native.Nat.{_≤_};
 mod questions;
 mod reading;
 
-pub use reading::read_columns;
+pub(crate) use reading::read_columns;
 
 // Bus n's response to inverter m is at place n - 1 of column m - 1.
 #[derive(Drop)]

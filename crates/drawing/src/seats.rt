@@ -4,8 +4,8 @@ use crate::seat::Seat;
 mod branches;
 mod metered;
 
-pub use branches::all_seats;
-pub use metered::metered_seats;
+pub(crate) use branches::all_seats;
+pub(crate) use metered::metered_seats;
 
 // Bus b's seat is at place b. The buses are 1 to count.
 #[derive(Drop)]

@@ -1,26 +1,24 @@
 -- Of the lines that a map file gives: there is one to each record, each goes up to a bus of the file, and none is without resistance.
-use Prim.Native.Nat.{ℕ, _+_, _-_, _≤_, _<_}
+use Prim.Native.Nat.{ℕ, _+_, _-_, _≤_}
 use mathlib.Core.Path.{_≡_, refl, sym, ap, subst, _∙_}
 use mathlib.Core.Logic.{⊎-elim}
-use mathlib.Core.Bool.{Bool, true, false, cond, _&&_}
+use mathlib.Core.Bool.{true, false, cond}
 use mathlib.Core.List.{List, [], _∷_, _++_}
 use native.Mathlib.Omega.{arith}
 use lib.Dec.{eqb, leb}
 use lib.ListN.{length}
 use lib.IntN.{ℤ, pos, negsuc, natAbs}
 use Rattle.std.specs.shelf.Lists.{All}
-use Rattle.std.specs.declared.result.Result.{Result}
-use Rattle.std.specs.declared.result.Result.the-variants.{Ok, Err}
+use Rattle.std.specs.declared.result.Result.the-variants.{Ok}
 use Rattle.std.proofs.shelf.Elements.{all-push, all-getD}
 use Rattle.std.proofs.shelf.Lists.{length-append, length-push}
 use Rattle.std.proofs.shelf.Tests.{and-parts, leb-true, both-ways}
-use Rattle.csv.specs.Grammar.{Records, last, above, File, recordText, recordsText, fileText}
+use Rattle.csv.specs.Grammar.{Records, last, above, File, recordText, recordsText}
 use Rattle.csv.specs.Places.{held, Piece, startOf, placeRecords, Parse, recordsOf}
 use Rattle.units.specs.Decimals.{busOf, decimalOf}
 use Rattle.feeder.specs.declared.line.Line.{Line}
 use Rattle.feeder.specs.Feeder.{blank, Bus}
 use Rattle.feeder.specs.Build.{IsFlawed}
-use Rattle.files.specs.declared.fault.FileFault.{FileFault}
 use Rattle.files.specs.declared.fault.FileFault.the-variants.{FieldCount, Form, MapEntry}
 use Rattle.files.specs.Faults.{need, having, after}
 use Rattle.files.specs.Rows.{fieldOf}

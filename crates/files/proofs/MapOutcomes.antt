@@ -1,11 +1,10 @@
 -- What reading a map file answers, from what opening it, reading its records and drawing its lines answer.
-use Prim.Native.Nat.{ℕ, _+_, _≤_, _<_}
+use Prim.Native.Nat.{ℕ, _≤_}
 use mathlib.Core.Path.{_≡_, refl, sym, ap, subst, _∙_}
 use mathlib.Core.List.{List}
 use native.Mathlib.Omega.{arith}
 use lib.ListN.{length, take}
 use Rattle.std.proofs.shelf.Lists.{length-take-le}
-use Rattle.std.specs.shelf.Lists.{All}
 use Rattle.std.specs.declared.result.Result.{Result}
 use Rattle.std.specs.declared.result.Result.the-variants.{Ok, Err}
 use Rattle.csv.specs.declared.fault.Fault.the-variants.{TooLong, Syntax}
@@ -26,8 +25,8 @@ use Rattle.files.specs.declared.fault.FileFault.{FileFault}
 use Rattle.files.specs.declared.fault.FileFault.the-variants.{Bytes, Unreached}
 use Rattle.files.specs.declared.maps.LineList.{LineList}
 use Rattle.files.specs.MapLines.{mapLines}
-use Rattle.files.specs.MapReading.{frontOf, frontIn, faultBus, MapEnds, drawn, unreached, MapOutcome, MapReading, long, broken, read}
-use Rattle.files.proofs.MapFacts.{Wired, map-wired, no-flaw, file-few}
+use Rattle.files.specs.MapReading.{frontOf, frontIn, faultBus, drawn, unreached, MapOutcome, MapReading, long, broken, read}
+use Rattle.files.proofs.MapFacts.{map-wired, no-flaw, file-few}
 
 -- the lines of a file are refused only where a bus does not reach the substation
 refused-lines : (F : List Line) (fault : Fault) → length F ≤ 64 → ((b : ℕ) → Bus F b → IsFlawed F b → ⊥) → Refused (length F) F fault → Lowest F (IsBeyond F) (faultBus fault)

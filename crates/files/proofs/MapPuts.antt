@@ -9,10 +9,9 @@ use lib.ListN.{length, getD, take, drop}
 use Rattle.std.proofs.shelf.Lists.{append-assoc, append-nil, length-append, length-take-le, drop-more, drop-all}
 use Rattle.std.proofs.shelf.Tests.{cond-both}
 use Rattle.feeder.specs.declared.line.Line.{Line}
-use Rattle.feeder.specs.declared.map.Map.{Map}
 use Rattle.feeder.specs.View.{linesOf}
 use Rattle.feeder.proofs.Maps.{parents, map-stands}
-use Rattle.files.specs.MapTexts.{digitAt, shortNumber, perUnit, newLine, lineText, linesText, mapText, Maps-are-short}
+use Rattle.files.specs.MapTexts.{shortNumber, perUnit, newLine, lineText, linesText, mapText, Maps-are-short}
 
 pub six-parts : (f a b c d e g : List ℕ) → (((((f ++ a) ++ b) ++ c) ++ d) ++ e) ++ g ≡ f ++ (a ++ (b ++ (c ++ (d ++ (e ++ g)))))
 six-parts f a b c d e g = simp append-assoc

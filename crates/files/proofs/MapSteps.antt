@@ -2,26 +2,22 @@
 use Prim.Native.Nat.{ℕ, zero, suc, _+_, _≤_, _<_}
 use mathlib.Core.Path.{_≡_, refl, sym, ap, _∙_}
 use mathlib.Core.Logic.{inl, inr, ⊎-elim}
-use mathlib.Core.Bool.{Bool, true, false}
+use mathlib.Core.Bool.{true, false}
 use mathlib.Core.List.{List, [], _∷_, _++_}
 use native.Mathlib.Omega.{arith}
-use lib.Dec.{eqb}
 use lib.ListN.{length, take, set}
 use Rattle.std.specs.shelf.Text.{sameBytes}
-use Rattle.std.specs.declared.result.Result.{Result}
 use Rattle.std.specs.declared.result.Result.the-variants.{Ok, Err}
 use Rattle.std.proofs.shelf.Equals.{sameBytes-decides}
 use Rattle.std.proofs.shelf.Lists.{take-more-set, length-take-le}
-use Rattle.std.proofs.shelf.Tests.{both-ways, cases-bool, eq-eqb}
-use Rattle.csv.specs.Places.{Piece, startOf}
+use Rattle.std.proofs.shelf.Tests.{both-ways, cases-bool}
+use Rattle.csv.specs.Places.{Piece}
 use Rattle.csv.specs.Views.{quoteless}
 use Rattle.feeder.specs.declared.line.Line.{Line}
 use Rattle.files.specs.declared.fault.FileFault.{FileFault}
-use Rattle.files.specs.declared.fault.FileFault.the-variants.{FieldCount}
-use Rattle.files.specs.Faults.{need, after}
-use Rattle.files.specs.Rows.{fieldOf}
+use Rattle.files.specs.Faults.{after}
 use Rattle.files.specs.MapColumns.{mapColumn}
-use Rattle.files.specs.MapLines.{nextOf, upperOf, ohmicOf, lineIn, linesIn}
+use Rattle.files.specs.MapLines.{lineIn, linesIn}
 use Rattle.files.proofs.Texts.{Odd}
 
 -- The names of the header.

@@ -7,22 +7,19 @@ use native.Mathlib.Omega.{arith}
 use lib.Chars.{codes}
 use lib.Dec.{eqb, leb}
 use lib.ListN.{length}
-use lib.IntN.{ℤ, pos, natAbs}
+use lib.IntN.{natAbs}
 use Rattle.std.specs.shelf.Lists.{All}
-use Rattle.std.specs.declared.option.Option.{Option}
-use Rattle.std.specs.declared.result.Result.{Result}
 use Rattle.std.specs.declared.result.Result.the-variants.{Ok}
 use Rattle.std.proofs.shelf.Lists.{append-assoc, append-nil, length-push}
 use Rattle.std.proofs.shelf.Tests.{and-from, le-leb, eq-eqb}
-use Rattle.csv.specs.Grammar.{textData, every, Field, plain, Record, lone, beside, Records, last, above, File, goodRecord, goodRecords, recordText, recordsText}
+use Rattle.csv.specs.Grammar.{textData, every, plain, Record, lone, beside, Records, last, above, File, goodRecord, goodRecords, recordText, recordsText}
 use Rattle.csv.specs.Places.{held, contentOf, Piece, placeRecord, placeRecords, Parse, recordsOf}
 use Rattle.units.specs.Decimals.{busOf, decimalOf}
 use Rattle.feeder.specs.declared.line.Line.{Line}
-use Rattle.files.specs.declared.fault.FileFault.{FileFault}
 use Rattle.files.specs.declared.fault.FileFault.the-variants.{Form, MapEntry}
 use Rattle.files.specs.Faults.{need, having, after}
 use Rattle.files.specs.Rows.{fieldOf}
-use Rattle.files.specs.MapTexts.{shortNumber, perUnit, newLine, lineText, linesText, mapText}
+use Rattle.files.specs.MapTexts.{shortNumber, perUnit, newLine, linesText, mapText}
 use Rattle.files.specs.MapLines.{nextOf, upperOf, ohmicIs, ohmicOf, lineIn, linesIn, mapLines}
 use Rattle.files.proofs.MapFacts.{Wired}
 use Rattle.files.proofs.MapDigits.{short-text, per-unit-text, short-back, per-unit-back}

@@ -1,32 +1,32 @@
 -- Reading what was written of a map gives that map back.
-use Prim.Native.Nat.{ℕ, suc, _+_, _-_, _≤_, _<_}
-use mathlib.Core.Path.{_≡_, refl, sym, ap, subst, _∙_}
+use Prim.Native.Nat.{ℕ, _+_, _-_, _≤_, _<_}
+use mathlib.Core.Path.{_≡_, sym, ap, subst, _∙_}
 use mathlib.Core.Logic.{⊎-elim}
-use mathlib.Core.List.{List, _++_}
+use mathlib.Core.List.{List}
 use native.Mathlib.Omega.{arith}
 use lib.ListN.{length, getD, take, drop}
 use Rattle.std.specs.shelf.Lists.{All}
 use Rattle.std.specs.declared.result.Result.{Result}
-use Rattle.std.specs.declared.result.Result.the-variants.{Ok}
-use Rattle.std.proofs.shelf.Elements.{all-from-getD}
+use Rattle.std.proofs.shelf.Elements.{all-from-getD, all-getD}
 use Rattle.std.proofs.shelf.Lists.{take-append-drop}
 use Rattle.std.proofs.shelf.Tests.{cases-lt}
 use Rattle.csv.specs.Grammar.{File, Csv, Impossible}
-use Rattle.csv.specs.Places.{Parse, recordsOf}
+use Rattle.csv.specs.Places.{recordsOf}
 use Rattle.csv.proofs.Unique.{unique}
 use Rattle.feeder.specs.declared.line.Line.{Line}
 use Rattle.feeder.specs.declared.map.Map.{Map}
-use Rattle.feeder.specs.Feeder.{blank, distance}
-use Rattle.feeder.specs.View.{linesOf, meteredOf}
+use Rattle.feeder.specs.Feeder.{blank, parentOf, resistanceOf, distance}
+use Rattle.feeder.specs.View.{linesOf}
 use Rattle.feeder.proofs.Maps.{count, line-at, parents, resists, map-feeder, map-stands}
 use Rattle.feeder.proofs.Builds.{feeder-reaches}
 use Rattle.feeder.proofs.SameMaps.{maps-are-their-lines}
 use Rattle.files.specs.declared.fault.FileFault.{FileFault}
-use Rattle.files.specs.MapTexts.{mapText}
+use Rattle.files.specs.MapTexts.{mapText, Numbers-are-told}
 use Rattle.files.specs.MapLines.{mapLines}
 use Rattle.files.specs.MapReading.{MapEnds, drawn, unreached, MapOutcome, MapReading, long, broken, read}
 use Rattle.files.specs.MapRoundTrip.{ReadBack, Written-maps-are-read}
 use Rattle.files.proofs.MapFacts.{Wired}
+use Rattle.files.proofs.MapDigits.{short-back, per-unit-back}
 use Rattle.files.proofs.MapPuts.{maps-are-short}
 use Rattle.files.proofs.MapTrees.{treeOf, tree-parse, tree-back}
 
@@ -70,3 +70,9 @@ module _ (m old new : Map) (r : Result (Unit {0}) FileFault) (some : 1 ≤ lengt
 
 pub written-maps-are-read : Written-maps-are-read
 written-maps-are-read m old new r some few reading = read-back m old new r some few reading
+
+pub numbers-are-told : Numbers-are-told
+numbers-are-told m b bus =
+    let counted = map-stands m .counted in
+    let line = all-getD (Wired (length (linesOf m))) (linesOf m) (b - 1) blank (omega (arith, bus)) (map-wires m) in
+    (short-back b (omega (arith, bus)), short-back (parentOf (linesOf m) b) (omega (arith, line .upper)), per-unit-back (resistanceOf (linesOf m) b) (omega (arith, line .most)))

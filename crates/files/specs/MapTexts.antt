@@ -6,10 +6,14 @@ use mathlib.Core.List.{List, [], _∷_, _++_}
 use lib.Dec.{ltb}
 use lib.Chars.{codes}
 use lib.ListN.{length, drop}
+use lib.IntN.{pos}
+use Rattle.std.specs.declared.option.Option.the-variants.{Some}
 use Rattle.std.specs.declared.result.Result.{Result}
 use Rattle.std.specs.declared.result.Result.the-variants.{Ok, Err}
+use Rattle.units.specs.Decimals.{busOf, decimalOf}
 use Rattle.feeder.specs.declared.line.Line.{Line}
 use Rattle.feeder.specs.declared.map.Map.{Map}
+use Rattle.feeder.specs.Feeder.{Bus, parentOf, resistanceOf}
 use Rattle.feeder.specs.View.{linesOf}
 use Rattle.files.specs.declared.fault.FileFault.{FileFault}
 use Rattle.files.specs.declared.fault.FileFault.the-variants.{ShortBuffer}
@@ -53,3 +57,7 @@ MapWriting text old new (Err fault) = (fault ≡ ShortBuffer (length text)) × (
 -- 2,300 bytes hold the text of any map, and a map of one bus takes 28
 abbrev pub Maps-are-short : Type 0
 Maps-are-short = (m : Map) → (length (mapText (linesOf m)) ≤ 2300) × (length (linesOf m) ≡ 1 → length (mapText (linesOf m)) ≡ 28)
+
+-- in the text of any map each number reads as the bus, the parent and the resistance that it stands for
+abbrev pub Numbers-are-told : Type 0
+Numbers-are-told = (m : Map) (b : ℕ) → Bus (linesOf m) b → (busOf (shortNumber b) ≡ Some b) × (busOf (shortNumber (parentOf (linesOf m) b)) ≡ Some (parentOf (linesOf m) b)) × (decimalOf 6 (perUnit (resistanceOf (linesOf m) b)) ≡ Some (pos (resistanceOf (linesOf m) b)))

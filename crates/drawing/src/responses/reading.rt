@@ -4,8 +4,7 @@ ghost use Prim.Native.Nat.{ℕ, _≤_, _<_};
 ghost use lib.ListN.{getD};
 ghost use lib.IntN.{pos};
 ghost use Rattle.std.specs.Options.{Cases as BySome};
-ghost use Rattle.drawing.specs.Columns.{Wrong};
-ghost use Rattle.drawing.specs.Columns.{tableOf};
+ghost use Rattle.drawing.specs.Columns.{tableOf, Wrong};
 ghost use Rattle.drawing.specs.Responses.{entriesOf, Reads, WrongColumns, WrongEntry, ReadTo};
 use crate::columns::Columns;
 use crate::responses::Responses;
@@ -13,8 +12,8 @@ use crate::responses::Responses;
 // The largest response of a feeder.
 const LARGEST: i64 = 1_000_000;
 
-// The responses of the columns: all but the columns of buses without inverters are read.
-pub fn read_columns(columns: &Columns) -> Option<Responses>
+// The responses of the columns. Those of buses without inverters are not read.
+pub(crate) fn read_columns(columns: &Columns) -> Option<Responses>
     ensures { λ r. ⌜ BySome r (WrongColumns (tableOf (now (columns .entry)))) (λ s. Reads (tableOf (now (columns .entry))) (entriesOf s)) ⌝ }
 {
     let buses = columns.buses;

@@ -92,7 +92,7 @@ fn distance_passed(last: Seat, m: usize) -> u32
 }
 
 // The metered seats with those of the unmetered buses behind, or none where there are more than any feeder has.
-pub fn all_seats(responses: &Responses, metered: &[Seat; 128]) -> Option<Seating>
+pub(crate) fn all_seats(responses: &Responses, metered: &[Seat; 128]) -> Option<Seating>
     requires { ⌜ MeteredSeats (entriesOf (now responses)) (now metered) ⌝ }
     ensures { λ r. ⌜ BySome r (Overseated (entriesOf (now (responses .entry)))) (λ s. Seated (entriesOf (now (responses .entry))) s) ⌝ }
 {

@@ -10,7 +10,7 @@ use crate::responses::Responses;
 use crate::seat::Seat;
 
 // The seats of all metered buses, or none where a bus responds to no inverter.
-pub fn metered_seats(responses: &Responses) -> Option<[Seat; 128]>
+pub(crate) fn metered_seats(responses: &Responses) -> Option<[Seat; 128]>
     ensures { λ r. ⌜ BySome r ((n : ℕ) × Meter (entriesOf (now (responses .entry))) n × EmptyRow (entriesOf (now (responses .entry))) n) (λ s. MeteredSeats (entriesOf (now (responses .entry))) s) ⌝ }
 {
     let mut seats = no_seats();

@@ -3,8 +3,7 @@ ghost use mathlib.Core.Path.{_≡_};
 ghost use mathlib.Core.List.{_++_};
 ghost use Prim.Native.Nat.{_+_, _<_, _≤_};
 ghost use lib.ListN.{length, take};
-ghost use Rattle.std.specs.shelf.Lists.{All};
-ghost use Rattle.files.specs.MapTexts.{digitAt, shortNumber, perUnit, newLine, lineText, mapText};
+ghost use Rattle.files.specs.MapTexts.{digitAt, shortNumber, perUnit, lineText, mapText};
 use crate::maps::HEADER;
 use feeder::Line;
 

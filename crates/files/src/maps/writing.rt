@@ -1,6 +1,6 @@
 // Writing a map into a buffer.
 ghost use Rattle.feeder.specs.View.{linesOf};
-ghost use Rattle.files.specs.MapTexts.{mapText, MapWriting, Maps-are-short};
+ghost use Rattle.files.specs.MapTexts.{mapText, MapWriting, Maps-are-short, Numbers-are-told};
 use crate::FileFault;
 use crate::maps::texts::put_map;
 use feeder::Map;
@@ -12,6 +12,7 @@ const MOST_TEXT: usize = 2_300;
 pub fn write_map(map: &Map, out: &mut [u8]) -> Result<usize, FileFault>
     ensures writes { λ r. ⌜ MapWriting (mapText (linesOf (now (map .entry)))) (now (out .entry)) (now (out .exit)) r ⌝ }
     ensures short { λ _. ⌜ Maps-are-short ⌝ }
+    ensures numbers { λ _. ⌜ Numbers-are-told ⌝ }
 {
     let mut text = [0; MOST_TEXT];
     let needed = put_map(&mut text, map.lines());

@@ -1,4 +1,3 @@
-use borrow.Author.Needs.{needs}
 use Rattle.std.proofs.shelf.Results.{err-from-errBy}
 use Rattle.files.proofs.MapOutcomes.{few-records, map-unopened, map-unread, map-sound, map-unreached, map-drawn, map-model}
 use Rattle.feeder.specs.View.{linesOf}
