@@ -1,13 +1,12 @@
 -- The floor of an inverter's column, the free distances and the nearest branch so far.
-use mathlib.Core.Path.{_≡_, refl, sym, ap, subst, _∙_}
+use mathlib.Core.Path.{_≡_, sym, subst}
 use mathlib.Core.List.{List}
-use mathlib.Core.Logic.{_⊎_, inl, inr, ⊎-elim}
-use Prim.Native.Nat.{ℕ, _+_, _≤_, _<_, max}
+use mathlib.Core.Logic.{_⊎_, ⊎-elim}
+use Prim.Native.Nat.{ℕ, _≤_, _<_, max}
 use native.Mathlib.Omega.{arith}
-use lib.ListN.{length, getD}
 use Rattle.drawing.specs.declared.seat.Seat.{Seat}
-use Rattle.drawing.specs.Seats.{Entries, Meter, Inverter, Branch}
-use Rattle.drawing.specs.Places.{start, seatOf, farOf, Free, FloorOf, BranchAt, BranchAfter}
+use Rattle.drawing.specs.Seats.{Entries, Inverter}
+use Rattle.drawing.specs.Places.{farOf, Free, FloorOf, BranchAt, BranchAfter}
 
 -- v is how far inverter m's way goes with those of the inverters below i
 pub record FloorTo (E : Entries) (m i v : ℕ) : Type 0 where

@@ -1,6 +1,6 @@
 -- The worked cases, each by its seats and lines.
 use mathlib.Core.Path.{refl}
-use mathlib.Core.List.{List, [], _∷_}
+use mathlib.Core.List.{[], _∷_}
 use Prim.Native.Nat.{ℕ}
 use native.Mathlib.Omega.{arith}
 use Rattle.feeder.specs.declared.line.Line.{Line}

@@ -7,10 +7,10 @@ use Prim.Native.Nat.{ℕ, zero, suc, _+_, _≤_, _<_}
 use native.Mathlib.Omega.{arith}
 use lib.Dec.{eqb, ltb, leb}
 use lib.IntN.{ℤ, pos, negsuc}
-use lib.ListN.{length, getD}
+use lib.ListN.{length}
 use Rattle.std.specs.Orderings.{Decides}
 use Rattle.std.specs.shelf.Lists.{sumBy}
-use Rattle.std.proofs.shelf.Tests.{cases-bool, leb-true, le-leb, true≢false, and-parts, and-from}
+use Rattle.std.proofs.shelf.Tests.{leb-true, le-leb, true≢false, and-parts, and-from}
 use Rattle.std.proofs.shelf.Ways.{decides-eqb, decides-ltb, decides-and, decides-or, decides-not, decides-like, decides-below-and, decides-below-or, not-from-decides}
 use Rattle.feeder.specs.declared.line.Line.{Line}
 use Rattle.feeder.specs.declared.kind.Kind.{Kind}
@@ -20,7 +20,7 @@ use Rattle.feeder.specs.Feeder.{Bus, End, parentOf, resistanceOf, way, response
 use Rattle.feeder.specs.Table as Table
 use Rattle.feeder.specs.Table.{Table, NoFeeder, Drawn}
 use Rattle.drawing.specs.declared.seat.Seat.{Seat}
-use Rattle.drawing.specs.Seats.{Entries, Meter, Inverter, Metering, Branch, Listing, Whole, Above, Wiring}
+use Rattle.drawing.specs.Seats.{Entries, Meter, Inverter, Metering, Branch, Listing, Whole, Wiring}
 use Rattle.drawing.specs.Yielded.{Yielded, Natural}
 use Rattle.drawing.specs.Places.{seatOf, farOf}
 use Rattle.drawing.specs.Checks.{Allowed, Passes}

@@ -2,16 +2,16 @@
 use mathlib.Core.Path.{_≡_, refl, sym, ap, subst, _∙_}
 use mathlib.Core.List.{List}
 use mathlib.Core.Logic.{_⊎_, inl, inr, ⊎-elim}
-use mathlib.Core.Bool.{Bool, true, false, cond}
+use mathlib.Core.Bool.{true, false, cond}
 use Prim.Native.Nat.{ℕ, _+_, _≤_, _<_}
 use native.Mathlib.Omega.{arith}
 use lib.Dec.{eqb, leb}
 use lib.ListN.{length, getD, set}
 use Rattle.std.proofs.shelf.Lists.{length-set, getD-set-same, getD-set-other}
-use Rattle.std.proofs.shelf.Tests.{cases-eq, cases-lt, cases-order, eq-eqb, ne-eqb, le-leb, lt-leb, cond-true, cond-false, true≢false}
+use Rattle.std.proofs.shelf.Tests.{cases-eq, cases-order, eq-eqb, ne-eqb, le-leb, lt-leb, cond-true, cond-false, true≢false}
 use Rattle.drawing.specs.declared.seat.Seat.{Seat}
 use Rattle.drawing.specs.declared.seats.Seating.{Seating}
-use Rattle.drawing.specs.Seats.{Entries, Meter, Inverter, Metering, Branch, Listing, Whole}
+use Rattle.drawing.specs.Seats.{Entries, Inverter, Metering, Branch, Listing, Whole}
 use Rattle.drawing.specs.Places.{start, seatOf, farOf, MeteredSeats, BranchAt, BranchAfter, Later, SeatAfter, NoSeatAfter}
 use Rattle.drawing.specs.Seating.{Seated, Overseated}
 

@@ -1,14 +1,13 @@
 -- What a drawing answers, from what its parts found.
-use mathlib.Core.Path.{_≡_, refl, sym, ap, subst, _∙_}
+use mathlib.Core.Path.{_≡_, sym, ap, subst, _∙_}
 use mathlib.Core.List.{List}
 use mathlib.Core.Logic.{_⊎_, inl, inr, ⊎-elim}
-use Prim.Native.Nat.{ℕ, _+_, _≤_, _<_}
+use Prim.Native.Nat.{ℕ, _≤_, _<_}
 use native.Mathlib.Omega.{arith}
-use lib.IntN.{pos}
 use lib.ListN.{length, take}
 use Rattle.std.specs.Options.{Cases}
 use Rattle.std.specs.declared.option.Option.{Option}
-use Rattle.std.specs.declared.option.Option.the-variants.{Some, None}
+use Rattle.std.specs.declared.option.Option.the-variants.{None}
 use Rattle.std.proofs.shelf.Tests.{cases-lt}
 use Rattle.std.proofs.shelf.Signed.{ints}
 use Rattle.feeder.specs.declared.line.Line.{Line}
@@ -16,19 +15,19 @@ use Rattle.feeder.specs.declared.kind.Kind.{Kind}
 use Rattle.feeder.specs.declared.kind.Kind.the-variants.{Complete, Reduced}
 use Rattle.feeder.specs.declared.fault.Fault.{Fault}
 use Rattle.feeder.specs.declared.map.Map.{Map}
-use Rattle.feeder.specs.Feeder.{Bus, Feeder, distance, response}
+use Rattle.feeder.specs.Feeder.{Bus}
 use Rattle.feeder.specs.Build.{Refused, Feeders-make-maps}
-use Rattle.feeder.specs.Table.{Table, Yields, OfKind, NoFeeder, Drawn}
+use Rattle.feeder.specs.Table.{Table, Yields, OfKind, NoFeeder}
 use Rattle.feeder.specs.View.{linesOf, meteredOf, DrawnMap}
 use Rattle.feeder.proofs.Laws.{inverters-stand-below}
 use Rattle.drawing.specs.declared.seats.Seating.{Seating}
-use Rattle.drawing.specs.Seats.{Entries, Meter, Inverter, Metering, Listing, Whole, Wiring}
-use Rattle.drawing.specs.Yielded.{Yielded, Natural}
-use Rattle.drawing.specs.Columns.{Wrong, Within}
+use Rattle.drawing.specs.Seats.{Entries, Listing, Wiring}
+use Rattle.drawing.specs.Yielded.{Natural}
+use Rattle.drawing.specs.Columns.{Within}
 use Rattle.drawing.specs.Responses.{Near, Reads, WrongColumns}
 use Rattle.drawing.specs.Places.{seatOf, farOf}
 use Rattle.drawing.specs.Seating.{Seated, Unseated, Wires, MapSeated}
-use Rattle.drawing.specs.Checks.{Allowed, Passes}
+use Rattle.drawing.specs.Checks.{Passes}
 use Rattle.drawing.proofs.Exact.{seated-positive}
 use Rattle.drawing.proofs.Wired.{wired-feeder, drawn-distance}
 use Rattle.drawing.proofs.Drawings.{ends-of, to-yielded, of-yielded, to-inverter, of-inverter, none-without-distance, none-with-many, answered, refused}

@@ -1,12 +1,12 @@
 -- Columns that were read, entry by entry, as a table.
-use mathlib.Core.Path.{_≡_, refl, sym, ap, subst, _∙_}
-use mathlib.Core.List.{List, []}
+use mathlib.Core.Path.{_≡_, sym, ap, subst, _∙_}
+use mathlib.Core.List.{[]}
 use mathlib.Core.Logic.{inl, inr}
 use mathlib.Core.Bool.{true, false}
 use Prim.Native.Nat.{ℕ, _+_, _-_, _≤_, _<_}
 use native.Mathlib.Omega.{arith}
 use lib.IntN.{pos}
-use lib.ListN.{length, getD}
+use lib.ListN.{getD}
 use Rattle.drawing.specs.declared.columns.Columns.{Columns}
 use Rattle.drawing.specs.declared.responses.Responses.{Responses}
 use Rattle.drawing.specs.Seats.{Inverter}

@@ -1,15 +1,15 @@
 -- The best seat of a row so far, and the seats of the first metered buses.
-use mathlib.Core.Path.{_≡_, refl, sym, ap, subst, _∙_}
+use mathlib.Core.Path.{_≡_, sym, ap, subst, _∙_}
 use mathlib.Core.List.{List}
-use mathlib.Core.Logic.{_⊎_, inl, inr, ⊎-elim}
+use mathlib.Core.Logic.{_⊎_, ⊎-elim}
 use Prim.Native.Nat.{ℕ, _+_, _≤_, _<_}
 use native.Mathlib.Omega.{arith}
 use lib.ListN.{length, getD, set}
 use Rattle.std.proofs.shelf.Lists.{length-set, getD-set-same, getD-set-other}
 use Rattle.std.proofs.shelf.Tests.{cases-eq}
 use Rattle.drawing.specs.declared.seat.Seat.{Seat}
-use Rattle.drawing.specs.Seats.{Entries, Meter, Inverter, Metering}
-use Rattle.drawing.specs.Places.{start, seatOf, farOf, EmptyRow, SeatsRow, MeteredSeats}
+use Rattle.drawing.specs.Seats.{Entries, Inverter}
+use Rattle.drawing.specs.Places.{start, SeatsRow, MeteredSeats}
 
 -- the best seat of bus n's row among the inverters below i
 pub record BestTo (E : Entries) (n i : ℕ) (s : Seat) : Type 0 where

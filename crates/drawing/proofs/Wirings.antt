@@ -1,19 +1,18 @@
 -- The farthest bus above another so far, the lines so far, and the wiring that they make.
-use mathlib.Core.Path.{_≡_, refl, sym, ap, subst, _∙_}
+use mathlib.Core.Path.{_≡_, sym, subst, _∙_}
 use mathlib.Core.List.{List}
-use mathlib.Core.Logic.{_⊎_, inl, inr, ⊎-elim}
+use mathlib.Core.Logic.{_⊎_, ⊎-elim}
 use Prim.Native.Nat.{ℕ, _+_, _-_, _≤_, _<_}
 use native.Mathlib.Omega.{arith}
 use lib.ListN.{length, getD, set, take}
 use Rattle.std.proofs.shelf.Lists.{length-set, getD-set-same, getD-set-other, getD-take, length-take-le}
-use Rattle.std.proofs.shelf.Tests.{cases-eq, cases-lt}
+use Rattle.std.proofs.shelf.Tests.{cases-eq}
 use Rattle.feeder.specs.declared.line.Line.{Line}
-use Rattle.feeder.specs.Feeder.{blank, Bus, lineOf, parentOf, resistanceOf}
-use Rattle.drawing.specs.declared.seat.Seat.{Seat}
+use Rattle.feeder.specs.Feeder.{blank, Bus, lineOf, parentOf}
 use Rattle.drawing.specs.declared.seats.Seating.{Seating}
-use Rattle.drawing.specs.Seats.{Entries, Meter, Inverter, Metering, Listing, Wiring, Above}
-use Rattle.drawing.specs.Places.{start, seatOf, farOf}
-use Rattle.drawing.specs.Seating.{Seated, SitsAbove, ParentSeat, SeatedLine, Wires}
+use Rattle.drawing.specs.Seats.{Entries, Wiring, Above}
+use Rattle.drawing.specs.Places.{seatOf, farOf}
+use Rattle.drawing.specs.Seating.{Seated, SitsAbove, SeatedLine, Wires}
 
 -- the farthest bus below i that sits above bus x
 pub record ParentTo (E : Entries) (s : Seating) (x i p : ℕ) : Type 0 where

@@ -5,7 +5,7 @@ use mathlib.Core.Logic.{_⊎_}
 use Prim.Native.Nat.{ℕ, _≤_, _<_}
 use lib.ListN.{length, getD}
 use Rattle.drawing.specs.declared.seat.Seat.{Seat}
-use Rattle.drawing.specs.Seats.{Entries, Meter, Inverter, Metering, Branch, Listing, Whole, Above}
+use Rattle.drawing.specs.Seats.{Entries, Meter, Inverter, Metering, Branch}
 
 -- the seat of the substation, and of places that no bus uses
 abbrev pub start : Seat

@@ -14,6 +14,7 @@ use Rattle.drawing.specs.Seats.{Entries, Meter}
 use Rattle.drawing.specs.Yielded.{Natural}
 use Rattle.drawing.specs.Columns.{Wrong}
 
+-- the responses as a table, by the same places as the columns
 unfoldable pub entriesOf : Responses → Entries
 entriesOf r = record { metered = r .buses; has = λ m. getD (r .has) (m - 1) false; entry = λ n m. getD (getD (r .entries) (m - 1) []) (n - 1) 0 }
 

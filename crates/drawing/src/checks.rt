@@ -1,9 +1,9 @@
 // The last check of a drawing: its map has every response of the columns, and an inverter at every end.
 ghost use mathlib.Core.Path.{_≡_};
-ghost use Prim.Native.Nat.{ℕ, _≤_, _<_};
+ghost use Prim.Native.Nat.{_≤_, _<_};
 ghost use lib.ListN.{length};
 ghost use Rattle.std.specs.Orderings.{Decides};
-ghost use Rattle.feeder.specs.Feeder.{End, response};
+ghost use Rattle.feeder.specs.Feeder.{response};
 ghost use Rattle.feeder.specs.View.{linesOf, meteredOf};
 ghost use Rattle.drawing.specs.Seats.{Meter, Inverter};
 ghost use Rattle.drawing.specs.Responses.{entriesOf};

@@ -19,7 +19,6 @@ use Rattle.feeder.specs.Way.{Way, top, up}
 use Rattle.feeder.specs.View.{linesOf}
 use Rattle.feeder.proofs.Builds.{feeders-make-maps}
 use Rattle.feeder.proofs.Maps.{map-stands}
-use Rattle.probing.specs.LineMaking.{newLine}
 
 pub ok-since : {T E : Type 0} (r : Result T E) (P : T → Type 0) (Q : E → Type 0) → Cases r P Q → ((e : E) → Q e → ⊥) → isOk r ≡ true
 ok-since (Ok x) P Q h never = refl
@@ -34,17 +33,21 @@ same-made map metered lines p q some e r =
     feeders-make-maps (length F) F (stands .feeder some) (stands .counted) (omega arith) (λ b h. stands .near b (h .1)) e
     (subst (λ n. Refused n F e) p (subst (λ ls. Refused metered ls e) q r))
 
-only-bus : (b : ℕ) → Bus (newLine ∷ []) b → b ≡ 1
-only-bus b h = omega (arith, h .0, h .1)
+-- one line from the substation
+abbrev lone : ℕ → List Line
+lone n = record { parent = 0; resistance = n } ∷ []
 
-not-flawed : IsFlawed (newLine ∷ []) 1 → ⊥
-not-flawed h = ⊎-elim (λ l. omega arith) (λ e. omega arith) h
+only-bus : (n b : ℕ) → Bus (lone n) b → b ≡ 1
+only-bus n b h = omega (arith, h .0, h .1)
 
-not-beyond : IsBeyond (newLine ∷ []) 1 → ⊥
-not-beyond h = h 1 (1 ∷ [], up (omega arith) top, refl) (omega arith)
+not-flawed : (n : ℕ) → 1 ≤ n → IsFlawed (lone n) 1 → ⊥
+not-flawed n some h = ⊎-elim (λ l. omega arith) (λ e. omega arith) h
 
-pub one-made : (e : Fault) → Refused 1 (newLine ∷ []) e → ⊥
-one-made TooMany r = omega arith
-one-made Overmetered r = omega (arith, r .1)
-one-made (Flawed b) r = let t = r .2 in not-flawed (subst (IsFlawed (newLine ∷ [])) (only-bus b (t .0)) (t .1))
-one-made (Beyond b) r = let t = r .3 in not-beyond (subst (IsBeyond (newLine ∷ [])) (only-bus b (t .0)) (t .1))
+not-beyond : (n : ℕ) → n ≤ 1000000 → IsBeyond (lone n) 1 → ⊥
+not-beyond n near h = h n (1 ∷ [], up (omega arith) top, omega arith) near
+
+pub one-made : {n : ℕ} → 1 ≤ n → n ≤ 1000000 → (e : Fault) → Refused 1 (record { parent = 0; resistance = n } ∷ []) e → ⊥
+one-made some near TooMany r = omega arith
+one-made some near Overmetered r = omega (arith, r .1)
+one-made {n} some near (Flawed b) r = let t = r .2 in not-flawed n some (subst (IsFlawed (lone n)) (only-bus n b (t .0)) (t .1))
+one-made {n} some near (Beyond b) r = let t = r .3 in not-beyond n near (subst (IsBeyond (lone n)) (only-bus n b (t .0)) (t .1))

@@ -7,6 +7,8 @@ use feeder::Map;
 mod making;
 mod probing;
 
+pub use probing::FeederProbing;
+
 // A source that walks the lines of a map. Every bus is metered, and no meter is mute.
 #[derive(Drop)]
 pub struct FeederSource {

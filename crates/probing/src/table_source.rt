@@ -4,6 +4,8 @@ use files::Table;
 mod making;
 mod probing;
 
+pub use probing::TableProbing;
+
 // A source that answers from a response table. Standing voltages are 0.
 #[derive(Drop)]
 pub struct TableSource {

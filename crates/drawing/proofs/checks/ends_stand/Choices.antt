@@ -3,7 +3,6 @@ use Rattle.feeder.specs.Feeder.{End}
 use Rattle.feeder.specs.View.{linesOf}
 use Rattle.drawing.specs.Seats.{Inverter}
 use Rattle.drawing.specs.Responses.{entriesOf}
-use Rattle.drawing.specs.Checks.{SameColumn, SameResponse}
 use Rattle.drawing.proofs.checks.ends_stand.Given as given
 
 abbrev pub Inv-loop-bus : given.InvT-loop-bus

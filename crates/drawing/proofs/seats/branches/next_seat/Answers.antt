@@ -1,6 +1,5 @@
 use mathlib.Core.Path.{sym, _∙_}
 use native.Mathlib.Omega.{arith}
-use Rattle.std.proofs.shelf.Tests.{true≢false}
 use Rattle.drawing.specs.Responses.{entriesOf}
 use Rattle.drawing.proofs.Listings.{seat-after, none-more, none-at}
 use Rattle.drawing.proofs.seats.branches.next_seat.Needs as need
