@@ -35,7 +35,7 @@ use Rattle.campaign.proofs.Lists.{same-buses, same-inverter, same-has}
 use Rattle.campaign.proofs.Law.{kept}
 
 -- the lowest that passes passes, and is within
-abbrev Passes : (ℕ → Bool) → ℕ → ℕ → Type 0
+abbrev pub Passes : (ℕ → Bool) → ℕ → ℕ → Type 0
 Passes test k n = (1 ≤ n) × (n ≤ k) × (test n ≡ true)
 
 passes-more : (k : ℕ) (test : ℕ → Bool) (n : ℕ) → lowest (suc k) test ≡ Some n → (o : Option ℕ) → lowest k test ≡ o → ((p : ℕ) → o ≡ Some p → Passes test k p) → Passes test (suc k) n
@@ -53,7 +53,7 @@ passes-more k test n e None before ih =
     absurd (let z : _≡_ {A = ℕ} 0 1 = cc in omega arith))
     (cases-bool (test (suc k)))
 
-lowest-passes : (k : ℕ) (test : ℕ → Bool) (n : ℕ) → lowest k test ≡ Some n → Passes test k n
+pub lowest-passes : (k : ℕ) (test : ℕ → Bool) (n : ℕ) → lowest k test ≡ Some n → Passes test k n
 lowest-passes zero test n e = absurd (let none = lowest-none test in let z : _≡_ {A = ℕ} 0 1 = cc in omega arith)
 lowest-passes (suc k) test n e = passes-more k test n e (lowest k test) refl (λ p h. lowest-passes k test p h)
 
@@ -61,10 +61,10 @@ module _ (f₀ : Facts) (bounds : Bounded f₀) {calls : Calls Drawing} {f : Fac
   same-source : same f₀ c ≡ true
   same-source = sym (ap (λ g. same g c) (k .others)) ∙ k .sameSource
 
-  buses : f₀ .buses ≡ c .buses
+  pub buses : f₀ .buses ≡ c .buses
   buses = same-buses f₀ c same-source
 
-  has : (m : ℕ) → f₀ .inverter m ≡ hasInverter c m
+  pub has : (m : ℕ) → f₀ .inverter m ≡ hasInverter c m
   has m =
       ⊎-elim
       (λ t. t ∙ sym (same-has f₀ bounds c same-source m t))
@@ -120,7 +120,7 @@ module _ (f₀ : Facts) (bounds : Bounded f₀) {calls : Calls Drawing} {f : Fac
   accepted-source kind before after answer (drawn new e b d) h = drawn-map-to kind (agree e) new d
 
   -- after a collection for each inverter no column is missing
-  all-collected : ((m : ℕ) → f₀ .inverter m ≡ true → collectedFor m calls ≡ true) → missing c ≡ None
+  pub all-collected : ((m : ℕ) → f₀ .inverter m ≡ true → collectedFor m calls ≡ true) → missing c ≡ None
   all-collected every =
       lowest-empty (c .buses) (λ m. hasInverter c m && not (present c m))
       (λ m l h. ⊎-elim (λ t. and-right (hasInverter c m) (not (present c m)) (ap not (k .collected m (every m (has m ∙ t))))) (λ n. ap (λ (b : Bool). b && not (present c m)) n) (cases-bool (hasInverter c m)))

@@ -1,4 +1,4 @@
-// Cases worked by hand for sources, campaigns and drawings: what is answered, and which refusal is given at which place.
+// Cases worked by hand for sources, campaigns, drawings and surveys: what is answered, and which refusal is given at which place.
 
 #[cfg(test)]
 mod campaigns;
@@ -10,3 +10,5 @@ mod given;
 mod hands;
 #[cfg(test)]
 mod sources;
+#[cfg(test)]
+mod surveys;

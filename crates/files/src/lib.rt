@@ -9,7 +9,10 @@ mod rows;
 mod table;
 
 pub use fault::FileFault;
+pub use fault::FileFaultDebug;
+pub use fault::FileFaultEq;
 pub use fault::FileFaultFromCsv;
+pub use fault::FileFaultPartialEq;
 pub use maps::read_map;
 pub use maps::write_map;
 pub use table::Probe;
