@@ -119,6 +119,15 @@ fn another_source() -> Result<(), Fail> {
         14,
         2,
     )?;
+    let mut fewer = table(b"probe,step,1,2,3\r\n2,1,0.0003,0.0005,0.0003")?;
+    refused(
+        campaign.probe(&mut fewer, 2, 100),
+        2,
+        Layer::Campaign,
+        14,
+        2,
+    )?;
+    check_eq(fewer.setting(2), 0)?;
     no_column(&campaign, 2)
 }
 
