@@ -1,5 +1,7 @@
 // A probing campaign: steps that must be withdrawn, the columns that are collected, and what every history keeps.
 
+#![tactic(auto)]
+
 mod calls;
 mod drawing_fault;
 mod fault;

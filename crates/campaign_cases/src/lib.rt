@@ -1,5 +1,7 @@
 // Cases worked by hand for sources, campaigns, drawings and surveys: what is answered, and which refusal is given at which place.
 
+#![tactic(auto)]
+
 #[cfg(test)]
 mod campaigns;
 #[cfg(test)]

@@ -1,4 +1,7 @@
 // Drawings of feeders from columns of responses.
+
+#![tactic(auto)]
+
 mod campaigns;
 mod checks;
 mod columns;

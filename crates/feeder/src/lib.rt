@@ -1,4 +1,7 @@
 // Radial feeders: their lines, distances and responses, and the map of a feeder.
+
+#![tactic(auto)]
+
 mod fault;
 mod kind;
 mod line;

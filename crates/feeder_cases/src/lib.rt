@@ -1,5 +1,7 @@
 // Cases worked by hand for feeders: their maps, and the files that hold maps.
 
+#![tactic(auto)]
+
 #[cfg(test)]
 mod map_files;
 #[cfg(test)]

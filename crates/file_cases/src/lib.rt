@@ -1,5 +1,7 @@
 // Cases worked by hand for files: what is read, and which refusal is given at which place.
 
+#![tactic(auto)]
+
 #[cfg(test)]
 mod decimals;
 #[cfg(test)]

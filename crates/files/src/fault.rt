@@ -2,8 +2,8 @@ ghost use Rattle.std.specs.Prelude.{◌≡◌};
 ghost use Rattle.files.specs.Faults.{refusal_of};
 ghost use Rattle.files.specs.declared.fault.FileFault.TheVariants.{Bytes};
 
-use rfc4180::Fault;
 use refusals::{Layer, Refusal};
+use rfc4180::Fault;
 
 // Why a file is turned down. `at` is a byte's place from 0.
 #[derive(Clone, Copy, PartialEq, Eq, Debug)]

@@ -1,5 +1,7 @@
 // Response files: what they hold, read exactly, or the refusal that names the place.
 
+#![tactic(auto)]
+
 mod columns;
 mod fault;
 mod numbers;

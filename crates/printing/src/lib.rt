@@ -1,5 +1,7 @@
 // What is printed: the text of a map and the text of a refusal, put into a buffer.
 
+#![tactic(auto)]
+
 mod map_text;
 mod refusal_text;
 mod texts;

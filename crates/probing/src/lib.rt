@@ -1,5 +1,7 @@
 // Probing: the facts that a source means, what it answers and refuses, and one probe on any source.
 
+#![tactic(auto)]
+
 mod fault;
 mod interface;
 mod probe;

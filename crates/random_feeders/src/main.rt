@@ -1,5 +1,7 @@
 // Draws random feeders back from what probing them tells, and prints the maps.
 
+#![tactic(auto)]
+
 mod file;
 mod growth;
 mod plan;

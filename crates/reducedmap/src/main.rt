@@ -1,4 +1,7 @@
 // Reads a response file from standard input and prints the reduced map as a map file, or the first refusal.
+
+#![tactic(auto)]
+
 use std::io;
 use std::io::{Read, Write};
 use survey::reducedmap;

@@ -1,5 +1,7 @@
 // How a call that is turned down says so: a number, the layer that refuses, and a place.
 
+#![tactic(auto)]
+
 // The layer that refuses.
 #[derive(Clone, Copy, PartialEq, Eq, Debug)]
 pub enum Layer {

@@ -1,4 +1,7 @@
 // Reads a response file from standard input and prints what it holds, or the refusal.
+
+#![tactic(auto)]
+
 use files::{Probe, Table};
 use refusals::{Layer, Refusal};
 use std::io;

@@ -1,5 +1,7 @@
 // Which bytes are a file of RFC 4180, and its records and fields.
 
+#![tactic(auto)]
+
 mod automaton;
 mod fault;
 mod field;

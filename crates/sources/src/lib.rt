@@ -1,5 +1,7 @@
 // Probing sources: one that answers from a response table, and one that walks the lines of a feeder.
 
+#![tactic(auto)]
+
 mod feeder_source;
 mod model;
 mod table_source;

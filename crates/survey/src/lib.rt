@@ -1,5 +1,7 @@
 // From a response file or a feeder to the map that its probing gives, or to the first refusal.
 
+#![tactic(auto)]
+
 mod fault;
 mod prints;
 mod returning;

@@ -1,5 +1,7 @@
 // Exact decimals in whole units, and the response that a voltage change and a step give.
 
+#![tactic(auto)]
+
 mod decimals;
 mod quotients;
 mod scale;

@@ -3,6 +3,7 @@ ghost use Rattle.std.specs.Prelude.{◌≡◌, ℕ, ◌-◌, ◌≤◌, ◌++◌
 ghost use Rattle.feeder.specs.Feeder.{Bus, blank};
 ghost use Rattle.feeder.specs.Build.{Reaches, IsBeyond, IsFlawed, Lowest, Tabled, Refused, FeedersMakeMaps};
 ghost use Rattle.feeder.specs.Laws.{Pigeonhole, WaysAreShort};
+ghost use Rattle.feeder.specs.Table.{AnswersAreAlone};
 ghost use Rattle.feeder.specs.View.{lines_of, metered_of, MapsAreTheirLines};
 
 use crate::fault::Fault;
@@ -20,6 +21,7 @@ impl Map {
         ensures accepts { FeedersMakeMaps }
         ensures alone { MapsAreTheirLines }
         ensures counting { Pigeonhole × WaysAreShort }
+        ensures drawn { AnswersAreAlone }
     {
         let buses = lines.len();
         if buses > MOST_BUSES {

@@ -3,10 +3,10 @@ use Rattle.std.proofs.lemmas.Int.{to_z-of_z}
 use Rattle.campaign.proofs.Quotients.{too_large}
 use Rattle.campaign.proofs.calls.quotient.Goals as goal
 
-pub returns-in-err-checked-sub : goal.returns-in-err-checked-sub
-returns-in-err-checked-sub c =
+pub returns-in_err-checked_sub : goal.returns-in_err-checked_sub
+returns-in_err-checked_sub c =
     let after = c.ranges.after in
     let before = c.ranges.before in
-    c.from-residual.ensures ∙
+    c.from_residual.ensures ∙
     too_large (c.args.after -ℤ c.args.before) c.args.size
-    (λ fits. c.in-err-checked-sub.ensures (simp to_z-of_z fits)) c.ranges.size
+    (λ fits. c.in_err-checked_sub.ensures (simp to_z-of_z fits)) c.ranges.size

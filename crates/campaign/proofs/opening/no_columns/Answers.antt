@@ -8,4 +8,4 @@ columns_of responses = replicate 64 (record { present = false; responses = respo
 
 pub returns : goal.returns
 unfolding no_columns columns_of
-returns c = ap columns_of c.no-readings.ensures
+returns c = ap columns_of c.no_readings.ensures

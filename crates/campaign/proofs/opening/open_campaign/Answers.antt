@@ -10,7 +10,7 @@ pub returns : goal.returns
 returns g c =
     let f = g.S.Source.facts c.args.source.now in
     record {
-      opened = c.new-campaign.ensures;
-      law = subst (λ (k : Campaign). CampaignLaw f k) (sym c.new-campaign.ensures) (campaign_law f (g.met.S.Source.bounded _));
-      keeps = subst (λ (k : Campaign). Law AnyLook f k) (sym c.new-campaign.ensures) (kept AnyLook f (g.met.S.Source.bounded _));
+      opened = c.new_campaign.ensures;
+      law = subst (λ (k : Campaign). CampaignLaw f k) (sym c.new_campaign.ensures) (campaign_law f (g.met.S.Source.bounded _));
+      keeps = subst (λ (k : Campaign). Law AnyLook f k) (sym c.new_campaign.ensures) (kept AnyLook f (g.met.S.Source.bounded _));
     }

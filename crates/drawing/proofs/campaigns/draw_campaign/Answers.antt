@@ -8,32 +8,32 @@ use Rattle.drawing.proofs.campaigns.draw_campaign.Goals as goal
 pub returns-in-Some : goal.returns-in-Some
 returns-in-Some c = record { draws = incomplete c.in-Some.inverter (sym c.in-Some.ensures); alone = answers_are_alone }
 
-pub returns-in-Some-bare-bus : goal.returns-in-Some-bare-bus
-returns-in-Some-bare-bus c = record { draws = unequipped c.in-Some-bare-bus.bus (sym c.in-default.ensures) (sym c.in-Some-bare-bus.ensures); alone = answers_are_alone }
+pub returns-in-Some-bare_bus : goal.returns-in-Some-bare_bus
+returns-in-Some-bare_bus c = record { draws = unequipped c.in-Some-bare_bus.bus (sym c.in_default.ensures) (sym c.in-Some-bare_bus.ensures); alone = answers_are_alone }
 
 pub returns-then-buses-gt64 : goal.returns-then-buses-gt64
 returns-then-buses-gt64 c =
     record {
-      draws = nowhere (sym c.in-default.ensures) (sym c.in-default-bare-bus.ensures) (λ moderate. absurd (omega (arith, moderate.few, c.buses.ensures, c.if-buses-gt64.true)));
+      draws = nowhere (sym c.in_default.ensures) (sym c.in_default-bare_bus.ensures) (λ moderate. absurd (omega (arith, moderate.few, c.buses.ensures, c.if-buses-gt64.true)));
       alone = answers_are_alone;
     }
 
 pub returns-in-Some-draw : goal.returns-in-Some-draw
 returns-in-Some-draw c =
     let campaign = c.args.campaign.now in
-    let none = sym c.in-default.ensures in
+    let none = sym c.in_default.ensures in
     let few : campaign.buses ≤ 64 = omega (arith, c.buses.ensures, c.if-buses-gt64.false) in
     record {
-      draws = drawn c.in-Some-draw.map none (sym c.in-default-bare-bus.ensures) (drawn_map_to c.args.kind (copied campaign c.columns-of.result c.columns-of.ensures few none) c.in-Some-draw.map c.in-Some-draw.ensures);
+      draws = drawn c.in-Some-draw.map none (sym c.in_default-bare_bus.ensures) (drawn_map_to c.args.kind (copied campaign c.columns_of.result c.columns_of.ensures few none) c.in-Some-draw.map c.in-Some-draw.ensures);
       alone = answers_are_alone;
     }
 
 pub returns-in-None : goal.returns-in-None
 returns-in-None c =
     let campaign = c.args.campaign.now in
-    let none = sym c.in-default.ensures in
+    let none = sym c.in_default.ensures in
     let few : campaign.buses ≤ 64 = omega (arith, c.buses.ensures, c.if-buses-gt64.false) in
     record {
-      draws = nowhere none (sym c.in-default-bare-bus.ensures) (λ moderate. nowhere_to c.args.kind (copied campaign c.columns-of.result c.columns-of.ensures few none) (c.in-None.ensures (copied_within campaign c.columns-of.result c.columns-of.ensures none moderate)));
+      draws = nowhere none (sym c.in_default-bare_bus.ensures) (λ moderate. nowhere_to c.args.kind (copied campaign c.columns_of.result c.columns_of.ensures few none) (c.in-None.ensures (copied_within campaign c.columns_of.result c.columns_of.ensures none moderate)));
       alone = answers_are_alone;
     }

@@ -4,14 +4,14 @@ use Rattle.drawing.specs.Columns.{table_of}
 use Rattle.drawing.proofs.Outcomes.{no_map, wrong_none, unseated_none, drawn_map, failed_none}
 use Rattle.drawing.proofs.drawing.draw.Goals as goal
 
-pub returns-in-err-responses : goal.returns-in-err-responses
-returns-in-err-responses c = no_map c.args.kind (table_of c.args.columns.now) c.from-residual.result c.from-residual.ensures (wrong_none c.args.kind (table_of c.args.columns.now) c.in-err-responses.ensures)
+pub returns-in_err-responses : goal.returns-in_err-responses
+returns-in_err-responses c = no_map c.args.kind (table_of c.args.columns.now) c.from_residual.result c.from_residual.ensures (wrong_none c.args.kind (table_of c.args.columns.now) c.in_err-responses.ensures)
 
-pub returns-in-err-seating : goal.returns-in-err-seating
-returns-in-err-seating c = no_map c.args.kind (table_of c.args.columns.now) c.from-residual-in-err-seating.result c.from-residual-in-err-seating.ensures (λ _. unseated_none c.args.kind (table_of c.args.columns.now) (entries_of c.in-ok-responses.responses) c.in-ok-responses.ensures.natural c.in-err-seating.ensures)
+pub returns-in_err-seating : goal.returns-in_err-seating
+returns-in_err-seating c = no_map c.args.kind (table_of c.args.columns.now) c.from_residual-in_err-seating.result c.from_residual-in_err-seating.ensures (λ _. unseated_none c.args.kind (table_of c.args.columns.now) (entries_of c.in_ok-responses.responses) c.in_ok-responses.ensures.natural c.in_err-seating.ensures)
 
 pub returns-then-passes : goal.returns-then-passes
-returns-then-passes c = drawn_map c.args.kind (table_of c.args.columns.now) (entries_of c.in-ok-responses.responses) c.in-ok-responses.ensures c.in-ok-seating.seating c.in-ok-seating.ensures c.wired-map-map.result c.wired-map-map.ensures (c.passes.ensures.0 c.if-passes.true)
+returns-then-passes c = drawn_map c.args.kind (table_of c.args.columns.now) (entries_of c.in_ok-responses.responses) c.in_ok-responses.ensures c.in_ok-seating.seating c.in_ok-seating.ensures c.wired_map-map.result c.wired_map-map.ensures (c.passes.ensures.0 c.if-passes.true)
 
 pub returns-else-passes : goal.returns-else-passes
-returns-else-passes c = λ _. failed_none c.args.kind (table_of c.args.columns.now) (entries_of c.in-ok-responses.responses) c.in-ok-responses.ensures c.in-ok-seating.seating c.in-ok-seating.ensures c.wired-map-map.result c.wired-map-map.ensures (not_from_Decides c.passes.result c.passes.ensures c.if-passes.false)
+returns-else-passes c = λ _. failed_none c.args.kind (table_of c.args.columns.now) (entries_of c.in_ok-responses.responses) c.in_ok-responses.ensures c.in_ok-seating.seating c.in_ok-seating.ensures c.wired_map-map.result c.wired_map-map.ensures (not_from_Decides c.passes.result c.passes.ensures c.if-passes.false)

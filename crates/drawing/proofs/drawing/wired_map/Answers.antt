@@ -9,7 +9,7 @@ from_start n = omega arith
 
 pub unreachable-requires : goal.unreachable-requires
 unreachable-requires c =
-    lines_make_maps (entries_of c.args.responses.now) c.args.seating.now c.wires-lines.result c.requires.seated c.wires-lines.ensures c.requires.some c.requires.near c.from-lines.ensures.accepts c.in-Err.field-0
+    lines_make_maps (entries_of c.args.responses.now) c.args.seating.now c.wires-lines.result c.requires.seated c.wires-lines.ensures c.requires.some c.requires.near c.from_lines.ensures.accepts c.in-Err.field-0
     (subst (λ t. Refused t (take c.args.seating.now.count c.wires-lines.result) c.in-Err.field-0) c.buses.ensures.value (subst (λ t. Refused c.buses.result (take t c.wires-lines.result) c.in-Err.field-0) (from_start c.args.seating.now.count) c.in-Err.ensures.value))
 
 pub returns : goal.returns

@@ -1,11 +1,16 @@
-use Rattle.std.proofs.Common.{sym}
+use Rattle.std.proofs.Common.{sym, ap, ◌∙◌}
 use Rattle.rfc4180.specs.Places.{held}
 use Rattle.rfc4180.specs.Views.{piece}
-use Rattle.units.specs.Decimals.{places_of}
-use Rattle.files.proofs.Texts.{text_none, odd_decimal}
+use Rattle.units.specs.Decimals.{places_of, decimal_of}
+use Rattle.files.proofs.Texts.{text_some, text_none, odd_decimal}
 use Rattle.files.proofs.numbers.decimal_field.Goals as goal
 
 pub returns-in-None : goal.returns-in-None
 returns-in-None c =
     let content = (piece c.args.field).content in
     sym (odd_decimal (places_of c.args.scale) (held content) (text_none content c.in-None.ensures))
+
+pub returns-in-Some : goal.returns-in-Some
+returns-in-Some c =
+    let content = (piece c.args.field).content in
+    c.decimal.ensures.value ∙ ap (decimal_of (places_of c.args.scale)) (sym (text_some content c.in-Some.text.now c.in-Some.ensures))

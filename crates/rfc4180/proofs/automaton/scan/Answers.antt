@@ -9,8 +9,8 @@ returns-in-None c = search (rules, at_drop_more (scan_of c.loop-at.state c.loop-
 pub loop-at-preserved : goal.loop-at-preserved
 loop-at-preserved c = search (rules, at_drop_more (scan_of c.loop-at.state c.loop-at.at))
 
-pub returns-then-may-end : goal.returns-then-may-end
-returns-then-may-end c = search (rules, at_drop_all (scan_of c.loop-at.state c.loop-at.at))
+pub returns-then-may_end : goal.returns-then-may_end
+returns-then-may_end c = search (rules, at_drop_all (scan_of c.loop-at.state c.loop-at.at))
 
-pub returns-else-may-end : goal.returns-else-may-end
-returns-else-may-end c = search (rules, at_drop_all (scan_of c.loop-at.state c.loop-at.at))
+pub returns-else-may_end : goal.returns-else-may_end
+returns-else-may_end c = search (rules, at_drop_all (scan_of c.loop-at.state c.loop-at.at))

@@ -8,7 +8,7 @@ pub loop-end-preserved : goal.loop-end-preserved
 loop-end-preserved c =
     let more = extent_comma c.args.file.now c.loop-end.start c.loop-end.end c.loop-end.invariant.0 c.if-file-end-eq44.true in
     let after = field_after c.args.file.now (c.loop-end.end + 1) in
-    (c.field-end-end-in-loop-end.ensures.value, omega arith, omega arith, omega arith, omega arith, omega arith)
+    (c.field_end-end-in-loop-end.ensures.value, omega arith, omega arith, omega arith, omega arith, omega arith)
 
 pub returns-else-file-end-eq44 : goal.returns-else-file-end-eq44
 returns-else-file-end-eq44 c =

@@ -5,5 +5,5 @@ use Rattle.units.proofs.decimals.split_sign.Goals as goal
 pub returns-in-45 : goal.returns-in-45
 returns-in-45 c = let rest = take_rest c.args.text.now 1 in grind (arith, rest)
 
-pub returns-in-default : goal.returns-in-default
-returns-in-default c = grind (arith, get_or_past)
+pub returns-in_default : goal.returns-in_default
+returns-in_default c = grind (arith, get_or_past)

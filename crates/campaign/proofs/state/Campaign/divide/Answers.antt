@@ -16,6 +16,6 @@ pub returns : goal.returns
 returns g c =
     let f = g.S.Source.facts c.args.source.now in
     let back = to_z-of_z w32 c.args.size c.ranges.size in
-    c.quotients.ensures ∙ ap (divided_of c.args.self.now.buses (difference c.args.self.now.before c.in-ok-after.after)) back ∙
-    collect_divides f (g.met.S.Source.bounded _) c.args.self.now c.args.inverter c.args.size c.in-ok-after.after
-    (sym c.matches.ensures ∙ c.if-not-matches.false) (ap (is_outstanding c.args.self.now c.args.inverter) (sym back) ∙ sym c.is-outstanding.ensures ∙ c.if-not-is-outstanding.false) c.in-ok-after.ensures
+    c.quotients.ensures ∙ ap (divided_of c.args.self.now.buses (difference c.args.self.now.before c.in_ok-after.after)) back ∙
+    collect_divides f (g.met.S.Source.bounded _) c.args.self.now c.args.inverter c.args.size c.in_ok-after.after
+    (sym c.matches.ensures ∙ c.if-not-matches.false) (ap (is_outstanding c.args.self.now c.args.inverter) (sym back) ∙ sym c.is_outstanding.ensures ∙ c.if-not-is_outstanding.false) c.in_ok-after.ensures

@@ -4,8 +4,8 @@ use Rattle.campaign.specs.Columns.{is_outstanding}
 use Rattle.campaign.proofs.Lists.{withdraw_stands}
 use Rattle.campaign.proofs.state.Campaign.end.Goals as goal
 
-pub returns-in-err-withdraw : goal.returns-in-err-withdraw
-returns-in-err-withdraw g c =
+pub returns-in_err-withdraw : goal.returns-in_err-withdraw
+returns-in_err-withdraw g c =
     absurd
-    (withdraw_stands (g.S.Source.facts c.args.source.now) c.args.self.now c.args.inverter c.args.size c.in-err-withdraw.field-0.0
-    (sym c.matches.ensures ∙ c.if-not-matches.false) (ap (is_outstanding c.args.self.now c.args.inverter) (sym (to_z-of_z w32 c.args.size c.ranges.size)) ∙ sym c.is-outstanding.ensures ∙ c.if-not-is-outstanding.false) c.in-err-withdraw.ensures.answer)
+    (withdraw_stands (g.S.Source.facts c.args.source.now) c.args.self.now c.args.inverter c.args.size c.in_err-withdraw.field-0.0
+    (sym c.matches.ensures ∙ c.if-not-matches.false) (ap (is_outstanding c.args.self.now c.args.inverter) (sym (to_z-of_z w32 c.args.size c.ranges.size)) ∙ sym c.is_outstanding.ensures ∙ c.if-not-is_outstanding.false) c.in_err-withdraw.ensures.answer)

@@ -4,15 +4,15 @@ use Rattle.campaign.proofs.state.Campaign.probe.Goals as goal
 
 pub finish-requires : goal.finish-requires
 finish-requires g c =
-    let h = follows (g.S.Source.facts c.args.source.now) (g.met.S.Source.bounded _) c.args.self.now c.args.inverter (to_z w32 (of_z w32 c.args.step)) _ _ _ c.in-ok-fresh.ensures in
+    let h = follows (g.S.Source.facts c.args.source.now) (g.met.S.Source.bounded _) c.args.self.now c.args.inverter (to_z w32 (of_z w32 c.args.step)) _ _ _ c.in_ok-fresh.ensures in
     still_outstanding _ _ _ _ _ _ h c.in-Ok.ensures
 
-pub give-up-requires : goal.give-up-requires
-give-up-requires g c =
-    let h = follows (g.S.Source.facts c.args.source.now) (g.met.S.Source.bounded _) c.args.self.now c.args.inverter (to_z w32 (of_z w32 c.args.step)) _ _ _ c.in-ok-fresh.ensures in
+pub give_up-requires : goal.give_up-requires
+give_up-requires g c =
+    let h = follows (g.S.Source.facts c.args.source.now) (g.met.S.Source.bounded _) c.args.self.now c.args.inverter (to_z w32 (of_z w32 c.args.step)) _ _ _ c.in_ok-fresh.ensures in
     absurd (never_refused _ _ _ _ _ _ h c.in-Err.ensures)
 
 pub returns-in-Err : goal.returns-in-Err
 returns-in-Err g c =
-    let h = follows (g.S.Source.facts c.args.source.now) (g.met.S.Source.bounded _) c.args.self.now c.args.inverter (to_z w32 (of_z w32 c.args.step)) _ _ _ c.in-ok-fresh.ensures in
+    let h = follows (g.S.Source.facts c.args.source.now) (g.met.S.Source.bounded _) c.args.self.now c.args.inverter (to_z w32 (of_z w32 c.args.step)) _ _ _ c.in_ok-fresh.ensures in
     absurd (never_refused _ _ _ _ _ _ h c.in-Err.ensures)

@@ -14,4 +14,4 @@ pub loop-seat-preserved : goal.loop-seat-preserved
 loop-seat-preserved c = listed_more_to (entries_of c.args.responses.now) c.args.metered.now c.loop-seat.seats c.loop-seat.count c.loop-seat.last c.in-Some.seat c.loop-seat.invariant c.in-Some.ensures (few c.args.responses.now) (λ e. omega arith)
 
 pub returns : goal.returns
-returns c = listed_seated (entries_of c.args.responses.now) c.args.metered.now _ c.loop-seat.last c.requires c.loop-seat.invariant c.in-default.ensures (few c.args.responses.now)
+returns c = listed_seated (entries_of c.args.responses.now) c.args.metered.now _ c.loop-seat.last c.requires c.loop-seat.invariant c.in_default.ensures (few c.args.responses.now)

@@ -9,4 +9,4 @@ pub returns-then-bus-eq0 : goal.returns-then-bus-eq0
 returns-then-bus-eq0 c = record { value = λ h. elim c.then-bus-eq0.branch [ then-bus-eq0-via-then-bus-eq0 w ↦ omega (arith, h.0) | then-bus-eq0-via-else-bus-eq0+then-bus-self w ↦ omega (arith, h.1, count c.args.self.now) ]; below = inverters_stand_below }
 
 pub returns : goal.returns
-returns c = record { value = tells_end _ _ c.args.bus c.has-child.result c.lines.ensures (omega arith, omega (arith, count c.args.self.now)) c.has-child.ensures.found c.has-child.ensures.missing; below = inverters_stand_below }
+returns c = record { value = tells_end _ _ c.args.bus c.has_child.result c.lines.ensures (omega arith, omega (arith, count c.args.self.now)) c.has_child.ensures.found c.has_child.ensures.missing; below = inverters_stand_below }

@@ -3,11 +3,20 @@ use Rattle.feeder.specs.Feeder.{blank, line_of}
 use Rattle.feeder.proofs.Blanks.{get_or_row}
 use Rattle.feeder.proofs.map.Map.new.Goals as goal
 
-pub invariant-of-result : goal.invariant-of-result
-invariant-of-result c = ((omega arith, omega arith), ((ap length c.blank-lines-lines.ensures, ap length c.no-distances-distances.ensures), ((λ b h l. absurd (omega arith)), (far 0, ((λ b l. omega (arith, far b)), ((λ b h l. absurd (omega arith)), ((λ b h. (ap (λ t. t.parent) (line b), ap (λ t. t.resistance) (line b), far b)), tt)))))))
+pub invariant_of-result : goal.invariant_of-result
+invariant_of-result c =
+    record {
+      counted = (omega arith, omega arith);
+      placed = (ap length c.blank_lines-lines.ensures, ap length c.no_distances-distances.ensures);
+      wired = λ b h l. absurd (omega arith);
+      started = far 0;
+      near = λ b l. omega (arith, far b);
+      measured = λ b h l. absurd (omega arith);
+      blank = λ b h. (ap (λ t. t.parent) (line b), ap (λ t. t.resistance) (line b), far b);
+    }
   where
-    line : (b : ℕ) → line_of c.blank-lines-lines.result b ≡ blank
-    line b = ap (λ t. line_of t b) c.blank-lines-lines.ensures ∙ get_or_row 127 (b - 1) blank
+    line : (b : ℕ) → line_of c.blank_lines-lines.result b ≡ blank
+    line b = ap (λ t. line_of t b) c.blank_lines-lines.ensures ∙ get_or_row 127 (b - 1) blank
 
-    far : (b : ℕ) → get_or c.no-distances-distances.result b 0 ≡ 0
-    far b = ap (λ t. get_or t b 0) c.no-distances-distances.ensures ∙ get_or_row 128 b 0
+    far : (b : ℕ) → get_or c.no_distances-distances.result b 0 ≡ 0
+    far b = ap (λ t. get_or t b 0) c.no_distances-distances.ensures ∙ get_or_row 128 b 0

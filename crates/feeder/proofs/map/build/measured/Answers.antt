@@ -3,7 +3,7 @@ use Rattle.feeder.proofs.Tables.{tabled_none, tabled_more, tabled_all, lowest_be
 use Rattle.feeder.proofs.map.build.measured.Goals as goal
 
 pub loop-bus-init : goal.loop-bus-init
-loop-bus-init c = tabled_none c.args.lines.now c.no-distances-distances.result c.no-distances-distances.ensures
+loop-bus-init c = tabled_none c.args.lines.now c.no_distances-distances.result c.no_distances-distances.ensures
 
 pub returns-in-None : goal.returns-in-None
 returns-in-None c = lowest_beyond c.args.lines.now c.loop-bus.bus c.loop-bus.distances c.loop-bus.invariant (omega arith, c.loop-bus-test.true) c.in-None.ensures

@@ -6,5 +6,5 @@ use Rattle.rfc4180.proofs.reader.Reader.open.Goals as goal
 pub returns : goal.returns
 unfolding left
 returns c =
-    let found = c.in-ok-check.ensures in
+    let found = c.in_ok-check.ensures in
     (found.verdict.0, record { file = found.parsed.tree; parse = found.parsed.parse; records = cond-true _ _ _ (le-leb 0 (length c.args.file.now) (omega arith)) ∙ found.parsed.read; only = found.parsed.only })

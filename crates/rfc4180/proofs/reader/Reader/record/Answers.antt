@@ -19,10 +19,10 @@ returns c =
     let file = c.args.self.now.file.now in
     let next = c.args.self.now.next in
     let within : next ≤ length file = c.if-self.false in
-    let whole = ap (λ n. fields_left n file next) c.span-at-span.ensures.fields ∙ extent_left file next within in
-    let further = onward c.args.self.now.more file next c.span-at-span.result.end c.if-not-self.false within c.span-at-span.ensures.end in
-    let fields = c.span-at-span.ensures.fields ∙ sym (length_fields (extent_at file next).fields file next) in
+    let whole = ap (λ n. fields_left n file next) c.span_at-span.ensures.fields ∙ extent_left file next within in
+    let further = onward c.args.self.now.more file next c.span_at-span.result.end c.if-not-self.false within c.span_at-span.ensures.end in
+    let fields = c.span_at-span.ensures.fields ∙ sym (length_fields (extent_at file next).fields file next) in
     let start = sym (fields_start (extent_at file next).fields file next (extent_some file next within)) in
-    let end = c.span-at-span.ensures.end ∙ sym (extent_ends file next within) in
-    let glance : ◌≡◌ {A = Outline} (record { fields = c.span-at-span.result.fields; start = next; end = c.span-at-span.result.end }) (outline_of (record_at file next)) = cc in
+    let end = c.span_at-span.ensures.end ∙ sym (extent_ends file next within) in
+    let glance : ◌≡◌ {A = Outline} (record { fields = c.span_at-span.result.fields; start = next; end = c.span_at-span.result.end }) (outline_of (record_at file next)) = cc in
     record { reads = further ∙ same_first (sym whole); whole = glance ∙ ap outline_of (sym whole) }

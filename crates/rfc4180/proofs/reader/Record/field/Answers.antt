@@ -16,8 +16,8 @@ pub returns : goal.returns
 unfolding remaining
 returns c =
     let file = c.args.self.now.file.now in
-    let ends = c.end-of.ensures ∙ ap (λ (p : Piece). p.end) c.field-at-field.ensures.value in
+    let ends = c.end_of.ensures ∙ ap (λ (p : Piece). p.end) c.field_at-field.ensures.value in
     let more = left_more c.args.self.now.left file c.args.self.now.next (omega arith) (omega arith) in
-    let first = ap (λ p. p ∷ fields_left (c.args.self.now.left - 1) file (c.end-of.result + 1)) (sym c.field-at-field.ensures.value) in
+    let first = ap (λ p. p ∷ fields_left (c.args.self.now.left - 1) file (c.end_of.result + 1)) (sym c.field_at-field.ensures.value) in
     let rest = ap (λ k. piece_at file c.args.self.now.next ∷ fields_left (c.args.self.now.left - 1) file (k + 1)) (sym ends) in
     record { reads = more ∙ rest ∙ first; outline = refl }
