@@ -5,9 +5,9 @@ ghost use Rattle.rfc4180.specs.Places.{outline_of};
 ghost use Rattle.rfc4180.specs.Views.{piece, outline, remaining};
 ghost use Rattle.maps.specs.Columns.{map_column, right_map_column, map_header_of};
 
-use rfc4180::{Field, Record};
 use files::{FileFault, same};
 use printing::MAP_HEADER;
+use rfc4180::{Field, Record};
 
 // Whether a text is the name of column k.
 fn is_map_column(text: &[u8], k: usize) -> bool

@@ -3,8 +3,8 @@ ghost use Rattle.std.specs.Prelude.{◌≡◌, ◌≤◌, OnOk};
 ghost use Rattle.rfc4180.specs.Views.{piece};
 ghost use Rattle.maps.specs.Lines.{next_of, upper_of, resistance_in};
 
-use rfc4180::Field;
 use files::{FileFault, bus_field, decimal_field};
+use rfc4180::Field;
 use units::Scale;
 
 // The most buses of a map file.

@@ -8,9 +8,9 @@ ghost use Rattle.maps.specs.Reading.{front_in};
 use crate::LineList;
 use crate::columns::read_map_header;
 use crate::entries::{read_next, read_parent, read_resistance};
-use rfc4180::{Reader, Record};
 use feeder::Line;
 use files::FileFault;
+use rfc4180::{Reader, Record};
 
 // The line of a record: first the field count, then the fields from the left.
 fn read_line(record: Record<'_>, buses: usize, next: usize) -> Result<Line, FileFault>

@@ -12,9 +12,9 @@ ghost use Rattle.maps.specs.RoundTrip.{WrittenMapsAreRead};
 
 use crate::LineList;
 use crate::lines::{count_records, read_map_lines};
-use rfc4180::Reader;
 use feeder::{Fault, Map};
 use files::FileFault;
+use rfc4180::Reader;
 
 // The bus that a fault of lines names, 0 where it names none.
 fn fault_bus(fault: Fault) -> usize

@@ -6,7 +6,7 @@ ghost use Rattle.probing.specs.Facts.{Facts, Bounded, share, sum_to};
 use probing::SourceFault;
 
 // What each inverter adds to a bus's voltage, as a source of our own works it out.
-pub(crate) trait Model {
+pub(crate) trait ShareModel {
     ghost model: { Self → Facts };
 
     fn count(&self) -> usize
@@ -20,8 +20,8 @@ pub(crate) trait Model {
 }
 
 // What all inverters add to the voltage of a bus.
-pub(crate) fn shares<M: Model>(model: &M, bus: usize) -> i64
-    ensures { result ≡ sum_to (M.Model.model model.now).buses (share (M.Model.model model.now) bus) }
+pub(crate) fn shares<M: ShareModel>(model: &M, bus: usize) -> i64
+    ensures { result ≡ sum_to (M.ShareModel.model model.now).buses (share (M.ShareModel.model model.now) bus) }
 {
     let mut sum = 0;
     for i in 0..model.count() {

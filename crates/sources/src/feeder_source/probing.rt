@@ -6,7 +6,7 @@ ghost use Rattle.sources.specs.TableFacts.{within};
 ghost use Rattle.sources.specs.Lines.{feeder_bounded};
 
 use crate::feeder_source::FeederSource;
-use crate::model::{Model, admit, product, put, shares};
+use crate::model::{ShareModel, admit, product, put, shares};
 use probing::{Source, SourceFault};
 
 impl FeederSource {
@@ -23,7 +23,7 @@ impl FeederSource {
     }
 }
 
-impl Model for FeederSource as FeederModel {
+impl ShareModel for FeederSource {
     ghost model = { λ s. feeder_facts (lines_of s.map) s.inverters s.standing s.settings };
 
     ghost lawful = { λ s. feeder_bounded s.map s.inverters s.standing s.settings s.few s.steady s.settled };

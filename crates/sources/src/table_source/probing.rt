@@ -3,7 +3,7 @@ ghost use Rattle.probing.specs.Facts.{share};
 ghost use Rattle.sources.specs.TableFacts.{within, probed, table_facts};
 ghost use Rattle.std.proofs.Common.{rules, arith};
 
-use crate::model::{Model, admit, product, put, shares};
+use crate::model::{ShareModel, admit, product, put, shares};
 use crate::table_source::TableSource;
 use probing::{Source, SourceFault};
 
@@ -21,7 +21,7 @@ impl TableSource {
     }
 }
 
-impl Model for TableSource as TableModel {
+impl ShareModel for TableSource {
     ghost model = { λ s. table_facts s.table s.settings };
 
     ghost lawful = { first_of (Prim.search rules, Prim.grind (arith, Self.row.coded.inj)) };

@@ -9,10 +9,10 @@ use Rattle.maps.proofs.lines.read_lines.Goals as goal
 pub loop-record-preserved : goal.loop-record-preserved
 loop-record-preserved c =
     let lines = c.loop-record.lines in
-    let few = c.in-ok-lines.ensures.few in
+    let few = c.in_ok-lines.ensures.few in
     let size = c.loop-record.invariant.2 in (
       c.loop-record.invariant.0 ∙ ap (lines_in c.args.buses (front_of lines)) c.in-Some.ensures.reads
-          ∙ lines_more c.args.buses lines.buses lines.places (omega (arith, few, size)) (remaining c.in-Some.record) (left c.record.new.self) c.in-ok-lines.field-0 (sym c.in-ok-lines.ensures.value),
+          ∙ lines_more c.args.buses lines.buses lines.places (omega (arith, few, size)) (remaining c.in-Some.record) (left c.record.new.self) c.in_ok-lines.field-0 (sym c.in_ok-lines.ensures.value),
       few,
       length-set _ _ _ ∙ size,
     )

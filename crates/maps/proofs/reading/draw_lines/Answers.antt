@@ -5,4 +5,4 @@ use Rattle.maps.proofs.reading.draw_lines.Goals as goal
 pub returns-in-Err : goal.returns-in-Err
 returns-in-Err c =
     let l = c.args.lines.now in
-    (c.fault-bus.result, refl, rw c.fault-bus.ensures (refused_front l.buses _ l.places c.in-Err.fault (omega arith) (search rules) c.requires.few c.requires.sound c.in-Err.ensures.value))
+    (c.fault_bus.result, refl, rw c.fault_bus.ensures (refused_front l.buses _ l.places c.in-Err.fault (omega arith) (search rules) c.requires.few c.requires.sound c.in-Err.ensures.value))

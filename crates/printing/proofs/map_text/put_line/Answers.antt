@@ -8,4 +8,4 @@ pub returns : goal.returns
 returns c =
     let line = c.args.line in
     let all = six_parts (take c.args.at c.args.out.now) (short_number c.args.bus) (0x2C ∷ []) (short_number line.parent) (0x2C ∷ []) (per_unit line.resistance) new_line in
-    record { front = cc; end = omega (arith, ap length c.resistance-text-resistance.ensures, c.put-at-resistance-end.ensures.end, c.put-at.ensures.end) }
+    record { front = cc; end = omega (arith, ap length c.resistance_text-resistance.ensures, c.put_at-resistance_end.ensures.end, c.put_at.ensures.end) }

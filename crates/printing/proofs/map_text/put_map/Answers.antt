@@ -7,8 +7,8 @@ pub loop-i-preserved : goal.loop-i-preserved
 loop-i-preserved c =
     let i = c.loop-i.i in
     let lines = c.args.lines.now in (
-      ap (λ t. t ++ lines_text (i + 1 + 1) (drop (i + 1) lines)) c.put-line-at.ensures.front ∙ lines_put _ (i + 1) i lines _ c.loop-i-test.true ∙ c.loop-i.invariant.0,
-      omega (arith, c.put-line-at.ensures.end, c.loop-i.invariant.1),
+      ap (λ t. t ++ lines_text (i + 1 + 1) (drop (i + 1) lines)) c.put_line-at.ensures.front ∙ lines_put _ (i + 1) i lines _ c.loop-i-test.true ∙ c.loop-i.invariant.0,
+      omega (arith, c.put_line-at.ensures.end, c.loop-i.invariant.1),
     )
 
 pub returns : goal.returns

@@ -6,5 +6,5 @@ use Rattle.printing.proofs.map_text.write_map.Goals as goal
 
 pub returns : goal.returns
 returns c =
-    let text = ap (λ k. take k c.put-map-length.new.out) (omega arith) ∙ c.put-map-length.ensures.front ∙ ap map_text c.lines.ensures in
-    record { writes = subst (λ t. Writing t c.args.out.now c.write-text.new.out c.write-text.result) text c.write-text.ensures; short = maps_are_short; numbers = numbers_are_told }
+    let text = ap (λ k. take k c.put_map-length.new.out) (omega arith) ∙ c.put_map-length.ensures.front ∙ ap map_text c.lines.ensures in
+    record { writes = subst (λ t. Writing t c.args.out.now c.write_text.new.out c.write_text.result) text c.write_text.ensures; short = maps_are_short; numbers = numbers_are_told }

@@ -5,17 +5,17 @@ use Rattle.printing.proofs.Parts.{six_parts}
 use Rattle.printing.proofs.Numbers.{three_digits, twenty_digits}
 use Rattle.printing.proofs.refusal_text.put_record.Goals as goal
 
-pub put-decimal-number-end-requires : goal.put-decimal-number-end-requires
-put-decimal-number-end-requires c = search (rules, three_digits)
+pub put_decimal-number_end-requires : goal.put_decimal-number_end-requires
+put_decimal-number_end-requires c = search (rules, three_digits)
 
-pub put-at-place-at-requires : goal.put-at-place-at-requires
-put-at-place-at-requires c = search (rules, three_digits)
+pub put_at-place_at-requires : goal.put_at-place_at-requires
+put_at-place_at-requires c = search (rules, three_digits)
 
-pub put-decimal-place-end-requires : goal.put-decimal-place-end-requires
-put-decimal-place-end-requires c = search (rules, three_digits, twenty_digits)
+pub put_decimal-place_end-requires : goal.put_decimal-place_end-requires
+put_decimal-place_end-requires c = search (rules, three_digits, twenty_digits)
 
-pub put-at-requires : goal.put-at-requires
-put-at-requires c = search (rules, three_digits, twenty_digits)
+pub put_at-requires : goal.put_at-requires
+put_at-requires c = search (rules, three_digits, twenty_digits)
 
 pub returns : goal.returns
 returns c =

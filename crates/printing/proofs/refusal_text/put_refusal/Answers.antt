@@ -6,6 +6,6 @@ use Rattle.printing.proofs.refusal_text.put_refusal.Goals as goal
 pub returns : goal.returns
 returns c =
     record {
-      front = c.put-record.ensures.front ∙ ap (λ t. t ++ record_text c.args.refusal) (c.put-at-record-at.ensures.front ∙ ap (λ t. t ++ new_line) c.put-at-header-end.ensures.front);
-      end = omega (arith, c.put-record.ensures.end, c.put-at-record-at.ensures.end, c.put-at-header-end.ensures.end);
+      front = c.put_record.ensures.front ∙ ap (λ t. t ++ record_text c.args.refusal) (c.put_at-record_at.ensures.front ∙ ap (λ t. t ++ new_line) c.put_at-header_end.ensures.front);
+      end = omega (arith, c.put_record.ensures.end, c.put_at-record_at.ensures.end, c.put_at-header_end.ensures.end);
     }

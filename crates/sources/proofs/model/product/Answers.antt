@@ -11,8 +11,8 @@ fitting : (z : ℤ) → nat_abs z ≤ 1000000000 → SFits w64 z
 fitting (pos n) h = record { sfits = omega arith }
 fitting (negsuc n) h = record { sfits = omega arith }
 
-pub overflow-mul-result : goal.overflow-mul-result
-overflow-mul-result c =
+pub overflow_mul-result : goal.overflow_mul-result
+overflow_mul-result c =
     let response : SFits w64 c.args.response = c.ranges.response in
     let setting : SFits w64 c.args.setting = c.ranges.setting in
     simp to_z-of_z (fitting (c.args.response *ℤ c.args.setting) (small c.args.response c.args.setting c.requires.0 c.requires.1))

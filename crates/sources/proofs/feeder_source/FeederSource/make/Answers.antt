@@ -6,23 +6,25 @@ use Rattle.sources.proofs.Entries.{steady_copies, made_means, make_accepted}
 use Rattle.sources.specs.Settings.{settled_none}
 use Rattle.sources.proofs.feeder_source.FeederSource.make.Goals as goal
 
-pub invariant-of-self : goal.invariant-of-self
-invariant-of-self c =
-    let count = ap length c.same-lines.ensures in
-    let stood = c.in-ok-voltages.ensures in (
-      (omega (arith, count, c.buses-buses.ensures), omega (arith, count, c.buses-buses.ensures)),
-      (steady_copies c.args.standing.now c.in-ok-voltages.voltages stood.0 stood.1, (settled_none, tt)),
-    )
+pub invariant_of-self : goal.invariant_of-self
+invariant_of-self c =
+    let count = ap length c.same_lines.ensures in
+    let stood = c.in_ok-voltages.ensures in
+    record {
+      few = (omega (arith, count, c.buses-buses.ensures), omega (arith, count, c.buses-buses.ensures));
+      steady = steady_copies c.args.standing.now c.in_ok-voltages.voltages stood.0 stood.1;
+      settled = settled_none;
+    }
 
 pub returns : goal.returns
 returns c =
     let F = lines_of c.args.map.now in
     let xs = c.args.inverters.now in
     let ys = c.args.standing.now in
-    let marked = c.in-ok-marks.ensures in
-    let stood = c.in-ok-voltages.ensures in
+    let marked = c.in_ok-marks.ensures in
+    let stood = c.in_ok-voltages.ensures in
     let few : length F ≤ 64 = omega arith in
     let long : length ys ≡ length F = omega arith in
-    let means = ap (λ G. feeder_facts G c.in-ok-marks.marks c.in-ok-voltages.voltages (replicate 64 (pos 0))) c.same-lines.ensures ∙ made_means F xs ys c.in-ok-marks.marks c.in-ok-voltages.voltages few marked.1 stood.1 in
+    let means = ap (λ G. feeder_facts G c.in_ok-marks.marks c.in_ok-voltages.voltages (replicate 64 (pos 0))) c.same_lines.ensures ∙ made_means F xs ys c.in_ok-marks.marks c.in_ok-voltages.voltages few marked.1 stood.1 in
     let placed = ap (λ n. first_misplaced n xs) (sym c.buses-buses.ensures) ∙ marked.0 in
     make_accepted F xs ys (omega arith) few placed long stood.0 ∙ ap Ok (sym means)

@@ -4,10 +4,10 @@ use Rattle.sources.proofs.Entries.{steady_none, new_means}
 use Rattle.sources.specs.Settings.{settled_none}
 use Rattle.sources.proofs.feeder_source.FeederSource.new.Goals as goal
 
-pub invariant-of-result : goal.invariant-of-result
-invariant-of-result c =
+pub invariant_of-result : goal.invariant_of-result
+invariant_of-result c =
     let count = ap length c.one_bus.ensures in
-    ((omega arith, omega arith), (steady_none, (settled_none, tt)))
+    record { few = (omega arith, omega arith); steady = steady_none; settled = settled_none }
 
 pub returns : goal.returns
 returns c =

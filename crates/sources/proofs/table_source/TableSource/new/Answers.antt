@@ -5,8 +5,8 @@ use Rattle.files.proofs.Bounds.{sound_empty}
 use Rattle.sources.specs.Settings.{settled_none, sound_few, sound_moderate}
 use Rattle.sources.proofs.table_source.TableSource.new.Goals as goal
 
-pub invariant-of-result : goal.invariant-of-result
-invariant-of-result c =
+pub invariant_of-result : goal.invariant_of-result
+invariant_of-result c =
     let P : Table → Type 0 = Sound in
     let bounds = subst P (sym c.new.ensures) (sound_empty 1 (omega arith) (omega arith)) in
-    (sound_few c.new.result bounds, (sound_moderate c.new.result bounds, (settled_none, tt)))
+    record { few = sound_few c.new.result bounds; moderate = sound_moderate c.new.result bounds; settled = settled_none }

@@ -9,8 +9,8 @@ use Rattle.sources.specs.Lines.{feeder_bounded, read_here}
 use Rattle.probing.proofs.Voltages.{sum_bounded}
 use Rattle.sources.proofs.feeder_source.probing.FeederSourceSource.read.Goals as goal
 
-pub overflow-add-result : goal.overflow-add-result
-overflow-add-result c =
+pub overflow_add-result : goal.overflow_add-result
+overflow_add-result c =
     let self = c.args.self.now in
     let facts = feeder_facts (lines_of self.map) self.inverters self.standing self.settings in
     let bounds = feeder_bounded self.map self.inverters self.standing self.settings self.few self.steady self.settled in

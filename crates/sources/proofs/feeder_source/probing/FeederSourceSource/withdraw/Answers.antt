@@ -7,11 +7,15 @@ use Rattle.sources.specs.TableFacts.{Settled}
 use Rattle.sources.specs.Settings.{settled_set}
 use Rattle.sources.proofs.feeder_source.probing.FeederSourceSource.withdraw.Goals as goal
 
-pub invariant-of-self : goal.invariant-of-self
-invariant-of-self c =
+pub invariant_of-self : goal.invariant_of-self
+invariant_of-self c =
     let self = c.args.self.now in
     let P : List ℤ → Type 0 = Settled in
-    (self.few, (self.steady, (subst P (sym c.put.ensures) (settled_set self.settings (c.args.inverter - 1) (pos 0) (omega arith) self.settled), tt)))
+    record {
+      few = self.few;
+      steady = self.steady;
+      settled = subst P (sym c.put.ensures) (settled_set self.settings (c.args.inverter - 1) (pos 0) (omega arith) self.settled);
+    }
 
 pub returns : goal.returns
 returns c =

@@ -12,10 +12,10 @@ returns c =
     let facts = table_facts self.table self.settings in
     let step : SFits w32 c.args.step = c.ranges.step in
     let setting : SFits w32 c.setting.result = search rules in
-    let told = simp to_z-of_z at c.in-ok-admit.ensures.value in
-    let ok : Ok tt ≡ command_of facts c.args.inverter c.args.step = accepted _ _ (told ∙ admitted facts c.args.inverter c.args.step c.is-probed.result c.setting.result c.is-probed.ensures c.setting.ensures) in
+    let told = simp to_z-of_z at c.in_ok-admit.ensures.value in
+    let ok : Ok tt ≡ command_of facts c.args.inverter c.args.step = accepted _ _ (told ∙ admitted facts c.args.inverter c.args.step c.is_probed.result c.setting.result c.is_probed.ensures c.setting.ensures) in
     let after = simp to_z-of_z at c.put.ensures in
-    let there : probed self.table c.args.inverter ≡ true = sym c.is-probed.ensures ∙ c.in-ok-admit.ensures.accepts.0 in
+    let there : probed self.table c.args.inverter ≡ true = sym c.is_probed.ensures ∙ c.in_ok-admit.ensures.accepts.0 in
     let place : c.args.inverter - 1 < length self.settings = search rules in
     record {
       answer = ok;

@@ -5,7 +5,7 @@ use Rattle.feeder.specs.Feeder.{response}
 use Rattle.sources.specs.LineFacts.{marked}
 use Rattle.sources.specs.TableFacts.{within}
 use Rattle.sources.specs.Lines.{marked_within, response_near, response_told, response_untold}
-use Rattle.sources.proofs.feeder_source.probing.FeederModel.share.Goals as goal
+use Rattle.sources.proofs.feeder_source.probing.FeederSourceShareModel.share.Goals as goal
 
 pub product-requires : goal.product-requires
 product-requires c =
