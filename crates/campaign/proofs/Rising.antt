@@ -13,7 +13,7 @@ use Rattle.campaign.specs.declared.steps.FreshStep.{FreshStep}
 use Rattle.campaign.specs.Columns.{same}
 use Rattle.campaign.specs.Relations.{opening_of, from_source, naming, inverter_of, commence_of, Commences}
 use Rattle.campaign.specs.History.{first, commencing, collecting, withdrawing, Calls, outstanding, collected_for, History, opened, called, settings_with, Kept}
-use Rattle.campaign.specs.Probes.{Probed, stepping_of, failing, NoLook, commenced, one_each, AllProbed}
+use Rattle.campaign.specs.Probes.{Probed, stepping_of, failing, NoLook, commenced, one_each, InRisingOrder, AllProbed}
 use Rattle.campaign.proofs.Law.{cut, Commencing, commence_accepted, commence_gives, sound, kept}
 
 -- every inverter of 1 to i was probed
@@ -113,6 +113,14 @@ survey_stops f₀ bounds size i f c refusal f' c' lt there r h =
     )
 
 -- all of them
+
+survey_whole : {f₀ : Facts} {size : ℤ} {i : ℕ} {f : Facts} {c : Campaign} (h : Surveying f₀ size i f c) → Bounded f₀ → History NoLook f₀ (opening_of f₀) h.calls f₀ c
+survey_whole {f₀} {size} {i} {f} {c} h bounds = subst (λ g. History NoLook f₀ (opening_of f₀) h.calls g c) (survey_facts f₀ bounds size i f c h) h.history
+
+pub survey_rises : (f₀ : Facts) → Bounded f₀ → (size : ℤ) (i : ℕ) (f : Facts) (c : Campaign) → i ≡ f₀.buses → Surveying f₀ size i f c → InRisingOrder f₀ size c
+survey_rises f₀ bounds size i f c last h =
+    record { calls = h.calls; history = survey_whole h bounds; rising = h.rising ∙ ap (one_each f₀ size) last }
+
 pub survey_ends : (f₀ : Facts) → Bounded f₀ → (size : ℤ) (i : ℕ) (f : Facts) (c : Campaign) → i ≡ f₀.buses → Surveying f₀ size i f c → (f ≡ f₀) × AllProbed f₀ size (Ok c)
 survey_ends f₀ bounds size i f c last h =
     let is = survey_facts f₀ bounds size i f c h in
@@ -122,8 +130,7 @@ survey_ends f₀ bounds size i f c last h =
         ap (λ k. lowest k (failing f₀ size)) (sym last) ∙ h.none,
         record {
           calls = h.calls;
-          history = subst (λ g. History NoLook f₀ (opening_of f₀) h.calls g c) is h.history;
-          rising = h.rising ∙ ap (one_each f₀ size) last;
+          history = survey_whole h bounds;
           withdrawn = h.free;
           each = λ m there. reached h last bounds m there;
           columns = λ m there.

@@ -54,16 +54,21 @@ abbrev pub one_each : Facts → ℤ → ℕ → List (ℕ × ℤ)
 one_each f size zero = []
 one_each f size (suc k) = cond (f.inverter (suc k)) ((suc k, size) ∷ one_each f size k) (one_each f size k)
 
--- a campaign in which every inverter was probed, in rising order with steps of one size, and no step is outstanding
-pub record Surveyed (f : Facts) (size : ℤ) (c : Campaign) : Type 0 where
+-- a campaign whose steps were commenced in rising order, one of this size for each inverter
+pub record InRisingOrder (f : Facts) (size : ℤ) (c : Campaign) : Type 0 where
   pub calls : Calls ⊥
   pub history : History NoLook f (opening_of f) calls f c
   pub rising : commenced calls ≡ one_each f size f.buses
+
+-- a campaign in which every inverter was probed, and no step is outstanding
+pub record Surveyed (f : Facts) (c : Campaign) : Type 0 where
+  pub calls : Calls ⊥
+  pub history : History NoLook f (opening_of f) calls f c
   pub withdrawn : outstanding calls ≡ None
   pub each : (m : ℕ) → f.inverter m ≡ true → collected_for m calls ≡ true
   pub columns : (m : ℕ) → f.inverter m ≡ true → (present c m ≡ true) × ((n : ℕ) → metered f n ≡ true → entry c n m ≡ f.response n m)
 
 -- every inverter, unless the source refuses one: then the lowest, with the source's refusal
 abbrev pub AllProbed : Facts → ℤ → Result Campaign CampaignRefusal → Type 0
-AllProbed f size (Ok c) = (lowest f.buses (failing f size) ≡ None) × Surveyed f size c
+AllProbed f size (Ok c) = (lowest f.buses (failing f size) ≡ None) × Surveyed f c
 AllProbed f size (Err refusal) = (m : ℕ) × (lowest f.buses (failing f size) ≡ Some m) × (Err refusal ≡ naming m (from_source (stepping_of f m size)))

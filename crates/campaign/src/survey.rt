@@ -1,7 +1,7 @@
-ghost use Rattle.std.specs.Prelude.{◌≡◌, true, Ok};
+ghost use Rattle.std.specs.Prelude.{◌≡◌, true, Ok, IfOk};
 ghost use Rattle.campaign.specs.Columns.{same, is_outstanding};
 ghost use Rattle.campaign.specs.Relations.{Withdraws};
-ghost use Rattle.campaign.specs.Probes.{Probes, AllProbed};
+ghost use Rattle.campaign.specs.Probes.{Probes, InRisingOrder, AllProbed};
 
 use crate::fault::CampaignRefusal;
 use crate::opening::open_campaign;
@@ -60,6 +60,7 @@ impl Campaign {
 pub fn probe_all<S: Source>(source: &mut S, step: i32) -> Result<Campaign, CampaignRefusal>
     ensures facts { S.Source.facts source.new ≡ S.Source.facts source.old }
     ensures answers { AllProbed (S.Source.facts source.old) step result }
+    ensures rising { IfOk result (λ c. InRisingOrder (S.Source.facts source.old) step c) }
 {
     let mut campaign = open_campaign(source);
     for i in 0..source.buses() {

@@ -13,9 +13,9 @@ use crate::seats::{Seating, all_seats, metered_seats};
 use crate::wiring::wires;
 use feeder::{Kind, Map};
 
-// The feeder of the kind that yields the columns, with the fewest buses.
-// None where no feeder of the kind does, or where it is larger than a map.
-pub(crate) fn draw(kind: Kind, columns: &Columns) -> Option<Map>
+/// The feeder of the kind that yields the columns, with the fewest buses.
+/// None where no feeder of the kind does, or where it is larger than a map.
+pub fn draw(kind: Kind, columns: &Columns) -> Option<Map>
     ensures { MatchOption result (Within (table_of columns.now) → NoFeeder kind (table_of columns.now)) (λ map. DrawnMap kind (table_of columns.now) map) }
 {
     let responses = read_columns(columns)?;

@@ -13,4 +13,6 @@ mod wiring;
 mod worked;
 
 pub use campaigns::draw_campaign;
+pub use columns::Columns;
+pub use drawing::draw;
 pub use worked::worked_cases_stand;

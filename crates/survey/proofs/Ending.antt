@@ -1,5 +1,5 @@
 -- What a survey ends with, by the law of the campaign.
-use Rattle.std.proofs.Common.{◌≡◌, ℕ, true, not, List, replicate, ℤ, pos, Some, None, Ok, Err, Result, sym, refl, ap, ◌∙◌, subst, arith}
+use Rattle.std.proofs.Common.{◌≡◌, ℕ, true, not, List, replicate, ℤ, pos, Some, None, Ok, Err, Option, Result, sym, refl, ap, ◌∙◌, subst, arith}
 use Rattle.feeder.specs.declared.kind.Kind.{Kind}
 use Rattle.feeder.specs.declared.kind.Kind.TheVariants.{Complete, Reduced}
 use Rattle.feeder.specs.declared.map.Map.{Map}
@@ -27,22 +27,33 @@ use Rattle.campaign.proofs.Looks.{among, history_among, collected_among}
 use Rattle.campaign.proofs.Whole.{buses, has, all_collected, campaign_law}
 use Rattle.survey.specs.declared.fault.ProgramFault.{ProgramFault}
 use Rattle.survey.specs.declared.fault.ProgramFault.TheVariants.{Campaign as InCampaign, Drawing as InDrawing}
-use Rattle.survey.specs.Surveys.{Holds, mute, facts, bare as bareOf, Surveys, muted, unequipped, nowhere, drawn}
-use Rattle.survey.proofs.Probing.{step, on_schedule_lem, bounded, refused_mute, accepted_heard}
+use Rattle.survey.specs.Surveys as told
+use Rattle.survey.specs.Surveys.{Holds, mute, Surveys, muted, unequipped, nowhere, drawn}
+use Rattle.survey.proofs.Probing.{step, facts, on_schedule_lem, bounded, refused_mute, accepted_heard}
 
 -- a drawing's answer as the program's
 abbrev pub programmed : Result (Unit {0}) DrawingFault → Result (Unit {0}) ProgramFault
 programmed (Ok u) = Ok u
 programmed (Err fault) = Err (InDrawing fault)
 
+-- the lowest metered bus without an inverter, if the kind wants one at each
+abbrev bare_of : Kind → Facts → Option ℕ
+bare_of Complete f = None
+bare_of Reduced f = lowest f.buses (λ n. not (f.inverter n))
+
+-- the same of a file's table
+bare_told : (kind : Kind) (t : Table) → bare_of kind (facts t) ≡ told.bare kind t
+bare_told Complete t = refl
+bare_told Reduced t = refl
+
 -- what a drawing of a source's responses answers, from old to new
 pub data Ends (f : Facts) (kind : Kind) (old : Map) : Result (Unit {0}) DrawingFault → Map → Type 0 where
-  bare : (n : ℕ) → bareOf kind f ≡ Some n → Ends f kind old (Err (InverterMissing n)) old
-  none : bareOf kind f ≡ None → NoFeeder kind (responses_of f) → Ends f kind old (Err Nowhere) old
-  some : (new : Map) → bareOf kind f ≡ None → DrawnMap kind (responses_of f) new → Ends f kind old (Ok tt) new
+  bare : (n : ℕ) → bare_of kind f ≡ Some n → Ends f kind old (Err (InverterMissing n)) old
+  none : bare_of kind f ≡ None → NoFeeder kind (responses_of f) → Ends f kind old (Err Nowhere) old
+  some : (new : Map) → bare_of kind f ≡ None → DrawnMap kind (responses_of f) new → Ends f kind old (Ok tt) new
 
 -- the drawing of a campaign in which every inverter was probed
-module _ (f : Facts) (bounds : Bounded f) (c : Campaign) (surveyed : Surveyed f step c) where
+module _ (f : Facts) (bounds : Bounded f) (c : Campaign) (surveyed : Surveyed f c) where
   calls : Calls Drawing
   calls = among surveyed.calls
 
@@ -63,7 +74,7 @@ module _ (f : Facts) (bounds : Bounded f) (c : Campaign) (surveyed : Surveyed f 
   none_missing : missing c ≡ None
   none_missing = all_collected f bounds keeps every
 
-  bare_same : (kind : Kind) → campaigns.bare kind c ≡ bareOf kind f
+  bare_same : (kind : Kind) → campaigns.bare kind c ≡ bare_of kind f
   bare_same Complete = refl
   bare_same Reduced =
       ap (λ k. lowest k (λ n. not (has_inverter c n))) (sym (buses f bounds keeps)) ∙
@@ -90,9 +101,9 @@ ends_muted bytes kind old t holds settings e refusal probed =
     subst Q (sym found.3) (muted t holds found.0 told.0 found.1 found.2)
 
 surveys : (bytes : List ℕ) (t : Table) → Holds bytes t → mute t ≡ None → (kind : Kind) (old new : Map) (answer : Result (Unit {0}) DrawingFault) → Ends (facts t) kind old answer new → Surveys bytes kind old (programmed answer) new
-surveys bytes t holds heard kind old new answer (bare n e) = unequipped t holds heard n e
-surveys bytes t holds heard kind old new answer (none e nothing) = nowhere t holds heard e nothing
-surveys bytes t holds heard kind old new answer (some map e m) = drawn t holds heard e map m
+surveys bytes t holds heard kind old new answer (bare n e) = unequipped t holds heard n (sym (bare_told kind t) ∙ e)
+surveys bytes t holds heard kind old new answer (none e nothing) = nowhere t holds heard (sym (bare_told kind t) ∙ e) nothing
+surveys bytes t holds heard kind old new answer (some map e m) = drawn t holds heard (sym (bare_told kind t) ∙ e) map m
 
 -- A table's probing that was accepted, and the drawing after it.
 pub ends_drawing : (bytes : List ℕ) (t : Table) → Holds bytes t → (settings : List ℤ) → settings ≡ replicate 64 (pos 0) → (c : Campaign) → AllProbed (table_facts t settings) step (Ok c) →

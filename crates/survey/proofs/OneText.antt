@@ -26,7 +26,7 @@ use Rattle.printing.specs.RefusalTexts.{refusal_text}
 use Rattle.survey.specs.declared.fault.ProgramFault.{ProgramFault}
 use Rattle.survey.specs.declared.fault.ProgramFault.TheVariants.{File as InFile, Campaign as InCampaign, Drawing as InDrawing}
 use Rattle.survey.specs.Faults.{refusal_of}
-use Rattle.survey.specs.Surveys.{Refuses, Holds, facts, told, mute, bare, Surveys, unread, muted, unequipped, nowhere, drawn}
+use Rattle.survey.specs.Surveys.{Refuses, Holds, told, mute, bare, Surveys, unread, muted, unequipped, nowhere, drawn}
 use Rattle.survey.specs.Prints.{Text, drawn as drawnText, refused as refusedText, TextsAreAlone}
 
 -- the front of what a file begins with begins a file
@@ -77,13 +77,13 @@ text_by None None (Some F) = map_text F
 
 record By (kind : Kind) (t : Table) (text : List ℕ) : Type 0 where
   pub answer : Option (List Line)
-  pub says : text ≡ text_by (mute t) (bare kind (facts t)) answer
-  pub right : mute t ≡ None → bare kind (facts t) ≡ None → Answers kind (told t) answer
+  pub says : text ≡ text_by (mute t) (bare kind t) answer
+  pub right : mute t ≡ None → bare kind t ≡ None → Answers kind (told t) answer
 
 by_one : (kind : Kind) (t : Table) (text text' : List ℕ) → By kind t text → By kind t text' → text ≡ text'
-by_one kind t text text' a b = a.says ∙ go (mute t) (bare kind (facts t)) refl refl ∙ sym b.says
+by_one kind t text text' a b = a.says ∙ go (mute t) (bare kind t) refl refl ∙ sym b.says
   where
-    go : (m n : Option ℕ) → mute t ≡ m → bare kind (facts t) ≡ n → text_by m n a.answer ≡ text_by m n b.answer
+    go : (m n : Option ℕ) → mute t ≡ m → bare kind t ≡ n → text_by m n a.answer ≡ text_by m n b.answer
     go (Some bus) n e d = refl
     go None (Some bus) e d = refl
     go None None e d = ap (text_by None None) (answers_are_alone kind (told t) a.answer b.answer (a.right e d) (b.right e d))
@@ -98,7 +98,7 @@ Found bytes kind text = ((fault : FileFault) × Refuses bytes fault × (text ≡
 found : (bytes : List ℕ) (kind : Kind) (old new : Map) (r : Result (Unit {0}) ProgramFault) → Surveys bytes kind old r new → Found bytes kind (text_of r new)
 found bytes kind old new r (unread fault refuses) = inl (fault, refuses, refl)
 found bytes kind old new r (muted t holds bus m e l) =
-    inr (t, holds, record { answer = None; says = ap (λ o. text_by o (bare kind (facts t)) None) (sym e); right = λ z d. none_some (sym e ∙ z) })
+    inr (t, holds, record { answer = None; says = ap (λ o. text_by o (bare kind t) None) (sym e); right = λ z d. none_some (sym e ∙ z) })
 found bytes kind old new r (unequipped t holds e n d) =
     inr (t, holds, record { answer = None; says = ap (λ o. text_by o (Some n) None) (sym e) ∙ ap (λ o. text_by (mute t) o None) (sym d); right = λ z x. none_some (sym d ∙ x) })
 found bytes kind old new r (nowhere t holds e d nothing) =

@@ -1,5 +1,5 @@
 -- What probing every inverter of an idle source answers, a loaded table's among them.
-use Rattle.std.proofs.Common.{◌≡◌, ℕ, ◌-◌, ◌≤◌, Bool, true, false, not, ◌&&◌, leb, List, ℤ, pos, nat_abs, is_some, is_err, Some, None, Ok, Err, Option, Result, sym, refl, ap, ◌∙◌, ⊎_elim, arith}
+use Rattle.std.proofs.Common.{◌≡◌, ℕ, ◌-◌, ◌≤◌, Bool, true, false, not, ◌&&◌, leb, List, replicate, ℤ, pos, nat_abs, is_some, is_err, Some, None, Ok, Err, Option, Result, sym, refl, ap, ◌∙◌, ⊎_elim, arith}
 use Rattle.std.proofs.lemmas.Bool.{cases_Bool, both_ways, and_parts, and_from, and_left, and_right, cond-true, cond-false, cond_both, eq-eqb, le-leb}
 use Rattle.files.specs.declared.table.Probe.{Probe}
 use Rattle.files.specs.declared.table.Table.{Table}
@@ -13,13 +13,13 @@ use Rattle.probing.specs.declared.fault.SourceFault.TheVariants.{Unreadable}
 use Rattle.probing.specs.Facts.{Facts, Bounded, voltage}
 use Rattle.probing.specs.Answers.{on_schedule, and_then, lowest, heard, per_bus, command_of}
 use Rattle.probing.proofs.Readings.{lowest_same, lowest_fails}
-use Rattle.sources.specs.TableFacts.{within, probed, response_in}
+use Rattle.sources.specs.TableFacts.{within, probed, response_in, table_facts}
 use Rattle.campaign.specs.declared.fault.CampaignFault.TheVariants.{Source}
 use Rattle.campaign.specs.declared.fault.CampaignRefusal.{CampaignRefusal}
 use Rattle.campaign.specs.Relations.{from_source, naming}
 use Rattle.campaign.specs.Probes.{stepping_of, failing}
 use Rattle.campaign.proofs.Whole.{lowest_passes}
-use Rattle.survey.specs.Surveys.{facts, mute}
+use Rattle.survey.specs.Surveys.{mute}
 
 -- a step of 100 thousandths
 abbrev pub step : ℤ
@@ -71,6 +71,10 @@ module _ (f : Facts) (idle : (m : ℕ) → f.setting m ≡ pos 0) where
   -- an accepted probing: if a meter is mute, there is no inverter
   pub accepted_bare : (bus : ℕ) → silent f ≡ Some bus → lowest f.buses (failing f step) ≡ None → (m : ℕ) → 1 ≤ m → m ≤ f.buses → f.inverter m ≡ true → ⊥
   accepted_bare bus e none m first last has = both_ways _ (lowest_fails f.buses m (failing f step) none first last) (mute_fails bus e m ∙ has)
+
+-- the facts of a source that was loaded with a file's table: every inverter is on its schedule
+abbrev pub facts : Table → Facts
+facts t = table_facts t (replicate 64 (pos 0))
 
 pub on_schedule_lem : (t : Table) (m : ℕ) → (facts t).setting m ≡ pos 0
 on_schedule_lem t m = ⊎_elim (λ e. cond-true _ _ _ e ∙ everywhere 64 (m - 1) (pos 0)) (λ e. cond-false _ _ _ e) (cases_Bool (probed t m))

@@ -10,7 +10,6 @@ use Rattle.files.specs.declared.table.Table as responses
 use Rattle.files.specs.Responses.{Reading, mute_of}
 use Rattle.files.specs.Rows.{empty_table}
 use Rattle.probing.specs.declared.fault.SourceFault.TheVariants.{Unreadable}
-use Rattle.probing.specs.Facts.{Facts}
 use Rattle.probing.specs.Answers.{lowest}
 use Rattle.sources.specs.TableFacts.{probed, table_facts}
 use Rattle.campaign.specs.declared.fault.CampaignFault.TheVariants.{Source}
@@ -27,22 +26,18 @@ Refuses bytes fault = Reading bytes (empty_table 1) (empty_table 1) (Err fault)
 abbrev pub Holds : List ℕ → responses.Table → Type 0
 Holds bytes t = Reading bytes (empty_table 1) t (Ok tt)
 
--- the facts of a source that was loaded with a file's table: every inverter is on its schedule
-abbrev pub facts : responses.Table → Facts
-facts t = table_facts t (replicate 64 (pos 0))
-
 -- the responses that a file's table tells
 abbrev pub told : responses.Table → Table
-told t = responses_of (facts t)
+told t = responses_of (table_facts t (replicate 64 (pos 0)))
 
 -- the lowest mute meter
 abbrev pub mute : responses.Table → Option ℕ
 mute t = lowest t.buses (mute_of t)
 
 -- the lowest metered bus without an inverter, if the kind wants one at each
-abbrev pub bare : Kind → Facts → Option ℕ
-bare Complete f = None
-bare Reduced f = lowest f.buses (λ n. not (f.inverter n))
+abbrev pub bare : Kind → responses.Table → Option ℕ
+bare Complete t = None
+bare Reduced t = lowest t.buses (λ n. not (probed t n))
 
 -- From a file's bytes to a map place, from old to new. The first that holds: the file is refused; a meter is mute; the kind
 -- wants an inverter where there is none; no feeder of the kind yields the file's responses. Else the place holds the drawn feeder.
@@ -50,6 +45,6 @@ pub data Surveys (bytes : List ℕ) (kind : Kind) (old : Map) : Result (Unit {0}
   unread : (fault : FileFault) → Refuses bytes fault → Surveys bytes kind old (Err (File fault)) old
   muted : (t : responses.Table) → Holds bytes t → (bus m : ℕ) → mute t ≡ Some bus → lowest t.buses (probed t) ≡ Some m →
       Surveys bytes kind old (Err (Campaign (record { fault = Source (Unreadable bus); inverter = m }))) old
-  unequipped : (t : responses.Table) → Holds bytes t → mute t ≡ None → (n : ℕ) → bare kind (facts t) ≡ Some n → Surveys bytes kind old (Err (Drawing (InverterMissing n))) old
-  nowhere : (t : responses.Table) → Holds bytes t → mute t ≡ None → bare kind (facts t) ≡ None → NoFeeder kind (told t) → Surveys bytes kind old (Err (Drawing Nowhere)) old
-  drawn : (t : responses.Table) → Holds bytes t → mute t ≡ None → bare kind (facts t) ≡ None → (new : Map) → DrawnMap kind (told t) new → Surveys bytes kind old (Ok tt) new
+  unequipped : (t : responses.Table) → Holds bytes t → mute t ≡ None → (n : ℕ) → bare kind t ≡ Some n → Surveys bytes kind old (Err (Drawing (InverterMissing n))) old
+  nowhere : (t : responses.Table) → Holds bytes t → mute t ≡ None → bare kind t ≡ None → NoFeeder kind (told t) → Surveys bytes kind old (Err (Drawing Nowhere)) old
+  drawn : (t : responses.Table) → Holds bytes t → mute t ≡ None → bare kind t ≡ None → (new : Map) → DrawnMap kind (told t) new → Surveys bytes kind old (Ok tt) new

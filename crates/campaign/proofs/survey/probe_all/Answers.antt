@@ -1,8 +1,8 @@
 use Rattle.std.proofs.Common.{◌≡◌, ℤ, Ok, Err, sym, ap, ◌∙◌, subst, arith, w32, to_z, of_z}
 use Rattle.std.proofs.lemmas.Int.{to_z-of_z}
 use Rattle.std.proofs.lemmas.Result.{err_from_is_err_and}
-use Rattle.campaign.specs.Probes.{AllProbed}
-use Rattle.campaign.proofs.Rising.{survey_at, survey_starts, survey_passes, survey_steps, survey_stops, survey_ends}
+use Rattle.campaign.specs.Probes.{InRisingOrder, AllProbed}
+use Rattle.campaign.proofs.Rising.{survey_at, survey_starts, survey_passes, survey_steps, survey_stops, survey_rises, survey_ends}
 use Rattle.campaign.proofs.survey.probe_all.Goals as goal
 use Rattle.campaign.proofs.survey.probe_all.Goals.{then-has_inverter+in_ok-probe, else-has_inverter}
 
@@ -20,6 +20,7 @@ returns-in_err-probe g c =
     record {
       facts = stops.0;
       answers = subst (λ r. AllProbed f c.args.step r) (sym (p.1 ∙ ap Err p.2)) (subst (λ (z : ℤ). AllProbed f z (Err e)) (to_z-of_z w32 c.args.step c.ranges.step) stops.1);
+      rising = rw p.1 tt;
     }
 
 pub loop-i-preserved : goal.loop-i-preserved
@@ -42,4 +43,8 @@ returns g c =
     let size = to_z w32 (of_z w32 c.args.step) in
     let last : c.loop-i.i ≡ f.buses = omega arith in
     let ends = survey_ends f (g.met.S.Source.bounded _) size c.loop-i.i (g.S.Source.facts c.loop-i.source) c.loop-i.campaign last c.loop-i.invariant in
-    record { facts = ends.0; answers = subst (λ (z : ℤ). AllProbed f z (Ok c.loop-i.campaign)) (to_z-of_z w32 c.args.step c.ranges.step) ends.1 }
+    record {
+      facts = ends.0;
+      answers = subst (λ (z : ℤ). AllProbed f z (Ok c.loop-i.campaign)) (to_z-of_z w32 c.args.step c.ranges.step) ends.1;
+      rising = subst (λ (z : ℤ). InRisingOrder f z c.loop-i.campaign) (to_z-of_z w32 c.args.step c.ranges.step) (survey_rises f (g.met.S.Source.bounded _) size c.loop-i.i (g.S.Source.facts c.loop-i.source) c.loop-i.campaign last c.loop-i.invariant);
+    }

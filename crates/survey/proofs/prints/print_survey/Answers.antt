@@ -9,10 +9,10 @@ use Rattle.survey.proofs.prints.print_survey.Goals as goal
 
 pub returns-in-Ok : goal.returns-in-Ok
 returns-in-Ok c =
-    let map = c.survey-file.new.place in
+    let map = c.survey_file.new.place in
     record {
-      prints = (map_text (lines_of map), drawn c.new-map.result map c.in-Ok.ensures, c.write-map.ensures.writes);
-      room = has_room (map_text (lines_of map)) c.args.out.now c.write-map.new.out c.write-map.result (c.write-map.ensures.short map).0 c.write-map.ensures.writes;
+      prints = (map_text (lines_of map), drawn c.new-map.result map c.in-Ok.ensures, c.write_map.ensures.writes);
+      room = has_room (map_text (lines_of map)) c.args.out.now c.write_map.new.out c.write_map.result (c.write_map.ensures.short map).0 c.write_map.ensures.writes;
       alone = texts_are_alone;
     }
 
@@ -21,9 +21,9 @@ returns-in-Err c =
     let r = c.refusal.result in
     let number : r.number < 2 ^ 8 = search rules in
     let place : r.place < 2 ^ 64 = search rules in
-    let text = refused c.new-map.result c.survey-file.new.place c.in-Err.fault c.in-Err.ensures in
+    let text = refused c.new-map.result c.survey_file.new.place c.in-Err.fault c.in-Err.ensures in
     record {
-      prints = (refusal_text r, rw c.refusal.ensures text, c.write-refusal.ensures.writes);
-      room = has_room (refusal_text r) c.args.out.now c.write-refusal.new.out c.write-refusal.result (omega (arith, c.write-refusal.ensures.short r number place)) c.write-refusal.ensures.writes;
+      prints = (refusal_text r, rw c.refusal.ensures text, c.write_refusal.ensures.writes);
+      room = has_room (refusal_text r) c.args.out.now c.write_refusal.new.out c.write_refusal.result (omega (arith, c.write_refusal.ensures.short r number place)) c.write_refusal.ensures.writes;
       alone = texts_are_alone;
     }

@@ -6,30 +6,30 @@ use Rattle.survey.specs.Surveys.{unread}
 use Rattle.survey.proofs.Ending.{ends_muted, ends_drawing}
 use Rattle.survey.proofs.surveying.survey_file.Goals as goal
 
-pub returns-in-err-load : goal.returns-in-err-load
-returns-in-err-load c =
-    let p = err_from_is_err_and c.from-residual.result c.from-residual.ensures.1 in
-    let told = c.in-err-load.ensures in
-    rw (p.1, p.2) (unread c.in-err-load.field-0.0 (refused_over c.args.file.now _ _ (empty_table 1) c.in-err-load.field-0.0 told.0))
+pub returns-in_err-load : goal.returns-in_err-load
+returns-in_err-load c =
+    let p = err_from_is_err_and c.from_residual.result c.from_residual.ensures.1 in
+    let told = c.in_err-load.ensures in
+    rw (p.1, p.2) (unread c.in_err-load.field-0.0 (refused_over c.args.file.now _ _ (empty_table 1) c.in_err-load.field-0.0 told.0))
 
-pub returns-in-err-campaign : goal.returns-in-err-campaign
-returns-in-err-campaign c =
-    let p = err_from_is_err_and c.from-residual-in-err-campaign.result c.from-residual-in-err-campaign.ensures.1 in
-    let loaded = c.in-ok-load.ensures in
+pub returns-in_err-campaign : goal.returns-in_err-campaign
+returns-in_err-campaign c =
+    let p = err_from_is_err_and c.from_residual-in_err-campaign.result c.from_residual-in_err-campaign.ensures.1 in
+    let loaded = c.in_ok-load.ensures in
     let source = c.load.new.self in
     rw (p.1, p.2)
-    (ends_muted c.args.file.now c.args.kind c.args.place.now source.table (reading_over c.args.file.now c.new-source.result.table source.table (empty_table 1) tt loaded.0) source.settings loaded.1 c.in-err-campaign.field-0.0 c.in-err-campaign.ensures.answers)
+    (ends_muted c.args.file.now c.args.kind c.args.place.now source.table (reading_over c.args.file.now c.new-source.result.table source.table (empty_table 1) tt loaded.0) source.settings loaded.1 c.in_err-campaign.field-0.0 c.in_err-campaign.ensures.answers)
 
-pub returns-in-err-draw-campaign : goal.returns-in-err-draw-campaign
-returns-in-err-draw-campaign c =
-    let p = err_from_is_err_and c.from-residual-in-err-draw-campaign.result c.from-residual-in-err-draw-campaign.ensures.1 in
-    let loaded = c.in-ok-load.ensures in
+pub returns-in_err-draw_campaign : goal.returns-in_err-draw_campaign
+returns-in_err-draw_campaign c =
+    let p = err_from_is_err_and c.from_residual-in_err-draw_campaign.result c.from_residual-in_err-draw_campaign.ensures.1 in
+    let loaded = c.in_ok-load.ensures in
     let source = c.load.new.self in
     rw (p.1, p.2)
-    (ends_drawing c.args.file.now source.table (reading_over c.args.file.now c.new-source.result.table source.table (empty_table 1) tt loaded.0) source.settings loaded.1 c.in-ok-campaign.campaign c.in-ok-campaign.ensures.answers c.args.kind c.args.place.now c.draw-campaign.new.place (Err c.in-err-draw-campaign.field-0.0) c.in-err-draw-campaign.ensures.draws)
+    (ends_drawing c.args.file.now source.table (reading_over c.args.file.now c.new-source.result.table source.table (empty_table 1) tt loaded.0) source.settings loaded.1 c.in_ok-campaign.campaign c.in_ok-campaign.ensures.answers c.args.kind c.args.place.now c.draw_campaign.new.place (Err c.in_err-draw_campaign.field-0.0) c.in_err-draw_campaign.ensures.draws)
 
 pub returns : goal.returns
 returns c =
-    let loaded = c.in-ok-load.ensures in
+    let loaded = c.in_ok-load.ensures in
     let source = c.load.new.self in
-    ends_drawing c.args.file.now source.table (reading_over c.args.file.now c.new-source.result.table source.table (empty_table 1) tt loaded.0) source.settings loaded.1 c.in-ok-campaign.campaign c.in-ok-campaign.ensures.answers c.args.kind c.args.place.now c.draw-campaign.new.place (Ok tt) c.in-ok-draw-campaign.ensures.draws
+    ends_drawing c.args.file.now source.table (reading_over c.args.file.now c.new-source.result.table source.table (empty_table 1) tt loaded.0) source.settings loaded.1 c.in_ok-campaign.campaign c.in_ok-campaign.ensures.answers c.args.kind c.args.place.now c.draw_campaign.new.place (Ok tt) c.in_ok-draw_campaign.ensures.draws
