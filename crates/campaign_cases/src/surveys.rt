@@ -21,16 +21,24 @@ fn refused(
         Ok(()) => Err(Fail::new("drawn")),
         Err(fault) => {
             says(rt, fault.refusal(), layer, number, place)?;
-            three(rt, &map)
+            assert_eq!(rt; map.buses(), 3);
+            assert_eq!(rt; map.resistance(3), Some(500));
+            Ok(())
         }
     }
 }
 
 #[test]
-fn a_file_of_three_buses(rt: HostRuntime) -> Result<(), Fail> {
+fn a_file_of_three_buses(rt: HostRuntime) {
     let mut map = Map::new();
     assert!(rt; survey_file(THREE, Kind::Complete, &mut map).is_ok());
-    three(&rt, &map)
+    assert_eq!(rt; map.buses(), 3);
+    assert_eq!(rt; map.parent(1), Some(0));
+    assert_eq!(rt; map.resistance(1), Some(300));
+    assert_eq!(rt; map.parent(2), Some(1));
+    assert_eq!(rt; map.resistance(2), Some(200));
+    assert_eq!(rt; map.parent(3), Some(1));
+    assert_eq!(rt; map.resistance(3), Some(500));
 }
 
 #[test]

@@ -1,5 +1,5 @@
 -- Feeders: a list of lines, and what follows from the list alone.
-use Rattle.std.specs.Prelude.{◌≡◌, ℕ, ◌-◌, ◌<◌, ◌≤◌, List, length, sum_by, ◌≢◌, slice_index_or}
+use Rattle.std.specs.Prelude.{ℕ, ◌-◌, ◌<◌, ◌≤◌, List, length, sum_by, ◌≢◌, slice_index_or}
 use Rattle.feeder.specs.declared.line.Line.{Line}
 use Rattle.feeder.specs.Way.{Way, On, climb, shared}
 

@@ -1,7 +1,6 @@
 use Rattle.std.proofs.Common.{◌≡◌, ◌-◌, true, length, arith, rules}
 use Rattle.std.proofs.lemmas.Int.{ints}
 use Rattle.feeder.specs.View.{lines_of}
-use Rattle.feeder.specs.Feeder.{response}
 use Rattle.sources.specs.LineFacts.{marked}
 use Rattle.sources.specs.TableFacts.{within}
 use Rattle.sources.specs.Lines.{marked_within, response_near, response_told, response_untold}
