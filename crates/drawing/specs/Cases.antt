@@ -1,6 +1,6 @@
 -- The worked cases: columns and what is drawn from them.
 use Rattle.std.specs.Prelude.{ℕ, ◌-◌, Bool, true, false, cond, List, [], ◌∷◌, length, ℤ, pos, negsuc, Some, None, Option, ◌==◌, slice_index_or}
-use Rattle.std.specs.List.{AllByRecursion as All}
+use Rattle.std.specs.List.{AllByRecursion}
 use Rattle.feeder.specs.declared.line.Line.{Line}
 use Rattle.feeder.specs.declared.kind.Kind.{Kind}
 use Rattle.feeder.specs.declared.kind.Kind.TheVariants.{Complete, Reduced}
@@ -59,4 +59,4 @@ cases =
 
 -- each outcome is what a drawing of the table answers
 abbrev pub CasesStand : Type 0
-CasesStand = All (λ c. Answers c.kind (table_from c.columns) c.outcome) cases
+CasesStand = AllByRecursion (λ c. Answers c.kind (table_from c.columns) c.outcome) cases

@@ -5,8 +5,8 @@ ghost use Rattle.sources.specs.TableFacts.{Few, Settled};
 
 use feeder::Map;
 
+mod as_source;
 mod making;
-mod probing;
 
 // A source that walks the lines of a map. Every bus is metered, and no meter is mute.
 #[derive(Drop)]

@@ -2,8 +2,8 @@ ghost use Rattle.sources.specs.TableFacts.{Few, Moderately, Settled};
 
 use files::Table;
 
+mod as_source;
 mod making;
-mod probing;
 
 // A source that answers from a response table. Standing voltages are 0.
 #[derive(Drop)]

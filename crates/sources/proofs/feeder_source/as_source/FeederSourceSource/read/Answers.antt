@@ -7,7 +7,7 @@ use Rattle.sources.specs.TableFacts.{within}
 use Rattle.std.proofs.lemmas.Bool.{cond-true}
 use Rattle.sources.specs.Lines.{feeder_bounded, read_here}
 use Rattle.probing.proofs.Voltages.{sum_bounded}
-use Rattle.sources.proofs.feeder_source.probing.FeederSourceSource.read.Goals as goal
+use Rattle.sources.proofs.feeder_source.as_source.FeederSourceSource.read.Goals as goal
 
 pub overflow_add-result : goal.overflow_add-result
 overflow_add-result c =

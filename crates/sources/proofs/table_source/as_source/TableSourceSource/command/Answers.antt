@@ -4,7 +4,7 @@ use Rattle.sources.specs.TableFacts.{probed, table_facts}
 use Rattle.probing.specs.Answers.{command_of}
 use Rattle.sources.specs.Settings.{admitted, table_replaced}
 use Rattle.probing.proofs.Probes.{accepted, command_leaves}
-use Rattle.sources.proofs.table_source.probing.TableSourceSource.command.Goals as goal
+use Rattle.sources.proofs.table_source.as_source.TableSourceSource.command.Goals as goal
 
 pub returns : goal.returns
 returns c =

@@ -5,7 +5,7 @@ use Rattle.sources.specs.Lines.{feeder_replaced}
 use Rattle.probing.proofs.Probes.{withdraw_accepted}
 use Rattle.sources.specs.TableFacts.{Settled}
 use Rattle.sources.specs.Settings.{settled_set}
-use Rattle.sources.proofs.feeder_source.probing.FeederSourceSource.withdraw.Goals as goal
+use Rattle.sources.proofs.feeder_source.as_source.FeederSourceSource.withdraw.Goals as goal
 
 pub invariant_of-self : goal.invariant_of-self
 invariant_of-self c =

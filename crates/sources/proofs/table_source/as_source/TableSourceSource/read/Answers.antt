@@ -3,7 +3,7 @@ use lib.IntN.{+ℤ_idl}
 use Rattle.std.proofs.lemmas.Int.{to_z-of_z}
 use Rattle.probing.specs.Facts.{voltage}
 use Rattle.sources.specs.TableFacts.{table_facts}
-use Rattle.sources.proofs.table_source.probing.TableSourceSource.read.Goals as goal
+use Rattle.sources.proofs.table_source.as_source.TableSourceSource.read.Goals as goal
 
 pub returns : goal.returns
 unfolding voltage

@@ -4,7 +4,7 @@ use Rattle.feeder.specs.View.{lines_of}
 use Rattle.sources.specs.LineFacts.{marked}
 use Rattle.sources.specs.TableFacts.{within}
 use Rattle.sources.specs.Lines.{marked_within, response_near, response_told, response_untold}
-use Rattle.sources.proofs.feeder_source.probing.FeederSourceShareModel.share.Goals as goal
+use Rattle.sources.proofs.feeder_source.as_source.FeederSourceShareModel.share.Goals as goal
 
 pub product-requires : goal.product-requires
 product-requires c =

@@ -1,7 +1,7 @@
 use Rattle.std.proofs.Common.{◌-◌, List, ℤ, pos, sym, subst, arith}
 use Rattle.sources.specs.TableFacts.{Settled}
 use Rattle.sources.specs.Settings.{settled_set}
-use Rattle.sources.proofs.table_source.probing.TableSourceSource.withdraw.Goals as goal
+use Rattle.sources.proofs.table_source.as_source.TableSourceSource.withdraw.Goals as goal
 
 pub invariant_of-self : goal.invariant_of-self
 invariant_of-self c =

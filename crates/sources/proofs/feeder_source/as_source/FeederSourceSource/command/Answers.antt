@@ -7,7 +7,7 @@ use Rattle.sources.specs.Settings.{admitted, settled_set}
 use Rattle.feeder.specs.View.{lines_of}
 use Rattle.sources.specs.Lines.{feeder_replaced}
 use Rattle.probing.proofs.Probes.{accepted, command_leaves}
-use Rattle.sources.proofs.feeder_source.probing.FeederSourceSource.command.Goals as goal
+use Rattle.sources.proofs.feeder_source.as_source.FeederSourceSource.command.Goals as goal
 
 pub returns : goal.returns
 returns c =
