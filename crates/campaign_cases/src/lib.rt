@@ -13,6 +13,6 @@ mod hands;
 #[cfg(test)]
 mod prints;
 #[cfg(test)]
-mod sources;
+mod source_cases;
 #[cfg(test)]
 mod surveys;

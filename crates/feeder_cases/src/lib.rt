@@ -3,6 +3,6 @@
 #![tactic(auto)]
 
 #[cfg(test)]
-mod map_files;
+mod map_cases;
 #[cfg(test)]
-mod maps;
+mod map_files;

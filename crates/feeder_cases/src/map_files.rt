@@ -133,7 +133,7 @@ fn a_buffer_that_just_fits(rt: HostRuntime) -> Result<(), Fail> {
         Ok(n) => {
             assert_eq!(rt; n, 28);
             let all: &[u8] = &out;
-            assert!(rt; all == b"bus,parent,r\r\n1,0,0.000300\r\n");
+            assert!(rt; all == b"bus,parent,r\r\n1,0,0.000300\r\n".as_slice());
             Ok(())
         }
         Err(_) => Err(Fail::new("no room")),
@@ -278,11 +278,11 @@ fn numbers_of_two_and_three_digits(rt: HostRuntime) -> Result<(), Fail> {
     };
     let mut out = [0; 2_300];
     assert_eq!(rt; write_map(&map, &mut out).ok(), Some(1_614));
-    assert_eq!(rt; &out[126..140], b"9,8,0.000001\r\n");
-    assert_eq!(rt; &out[140..155], b"10,9,0.000001\r\n");
-    assert_eq!(rt; &out[155..171], b"11,10,0.000001\r\n");
-    assert_eq!(rt; &out[1_579..1_596], b"100,99,0.000001\r\n");
-    assert_eq!(rt; &out[1_596..1_614], b"101,100,0.000001\r\n");
+    assert_eq!(rt; &out[126..140], b"9,8,0.000001\r\n".as_slice());
+    assert_eq!(rt; &out[140..155], b"10,9,0.000001\r\n".as_slice());
+    assert_eq!(rt; &out[155..171], b"11,10,0.000001\r\n".as_slice());
+    assert_eq!(rt; &out[1_579..1_596], b"100,99,0.000001\r\n".as_slice());
+    assert_eq!(rt; &out[1_596..1_614], b"101,100,0.000001\r\n".as_slice());
     assert_eq!(rt; out[1_614], 0);
     Ok(())
 }

@@ -5,10 +5,10 @@ use Rattle.campaign_cases.proofs.hands.second.Goals as goal
 
 pub unreachable-requires : goal.unreachable-requires
 unreachable-requires g c =
-    let h = follows (g.S.Source.facts c.args.source.now) (g.met.S.Source.bounded _) c.args.campaign.now c.args.inverter (to_z w32 (of_z w32 c.args.step)) _ _ _ c.in-ok-fresh.ensures in
+    let h = follows (g.S.Source.facts c.args.source.now) (g.met.S.Source.bounded _) c.args.campaign.now c.args.inverter (to_z w32 (of_z w32 c.args.step)) _ _ _ c.in_ok-fresh.ensures in
     absurd (no_second _ _ _ _ _ _ _ _ _ (h.match, h.out) c.in-Ok.ensures)
 
-pub put-back-requires : goal.put-back-requires
-put-back-requires g c =
-    let h = follows (g.S.Source.facts c.args.source.now) (g.met.S.Source.bounded _) c.args.campaign.now c.args.inverter (to_z w32 (of_z w32 c.args.step)) _ _ _ c.in-ok-fresh.ensures in
+pub put_back-requires : goal.put_back-requires
+put_back-requires g c =
+    let h = follows (g.S.Source.facts c.args.source.now) (g.met.S.Source.bounded _) c.args.campaign.now c.args.inverter (to_z w32 (of_z w32 c.args.step)) _ _ _ c.in_ok-fresh.ensures in
     still_held _ _ _ _ _ _ _ _ _ (h.match, h.out) c.in-Err.ensures
