@@ -1,7 +1,7 @@
 #!/usr/bin/env python3
 """Compares the proved programs with the plain Rust program, byte for byte, on many random response files. Run by hand.
 
-    rt check fullmap reducedmap && bench/many.py
+    (cd crates/fullmap && rt run < stdin); (cd crates/reducedmap && rt run < stdin); bench/many.py
     bench/many.py [--full PROGRAM] [--reduced PROGRAM] [--files COUNT] [--seed SEED]
 
 The files are those of random feeders, with every form of their numbers; files with a few responses changed; and broken ones: fields
@@ -21,7 +21,7 @@ sys.dont_write_bytecode = True
 import response_files
 
 HERE = Path(__file__).resolve().parent
-BIN = HERE.parent / "target" / "bin"
+CRATES = HERE.parent / "crates"
 
 
 def size(chance):
@@ -158,8 +158,8 @@ def summary(text):
 
 def main():
     parser = argparse.ArgumentParser()
-    parser.add_argument("--full", default=str(BIN / "fullmap"))
-    parser.add_argument("--reduced", default=str(BIN / "reducedmap"))
+    parser.add_argument("--full", default=str(CRATES / "fullmap" / "out" / "fullmap"))
+    parser.add_argument("--reduced", default=str(CRATES / "reducedmap" / "out" / "reducedmap"))
     parser.add_argument("--files", type=int, default=1_000)
     parser.add_argument("--seed", type=int, default=1)
     args = parser.parse_args()
@@ -169,7 +169,7 @@ def main():
         programs = [("complete", args.full), ("reduced", args.reduced)]
         programs = [(kind, program) for kind, program in programs if os.access(program, os.X_OK)]
         if not programs:
-            sys.exit("neither program is there: rt check fullmap reducedmap builds them")
+            sys.exit("neither program is there: rt run in its crate builds each")
         for kind, program in programs:
             chance = random.Random(args.seed)
             counts = collections.Counter()

@@ -23,6 +23,8 @@ TYPE = re.compile(r"(?:^|→ |\) )Type \S+$")
 OLD_CRATE, NEW_CRATE = "csv", "rfc4180"
 # names whose words the rules below do not find
 WORDS = {"getD-row": "get_or_row", "natAbs-zero": "unsigned_abs_zero", "zero-natAbs": "zero_unsigned_abs"}
+# words that the toolchain's script spells as a tactic
+TACTICS = {"first_of": "first_refusal"}
 # lemmas that would have the name of the definition that they are about, by a part of their file's path
 LEMMAS = [("Digits.antt", "digit_at"), ("Fields.antt", "plain_at")]
 
@@ -95,6 +97,8 @@ def table():
     for name in ours - foreign:
         if wants(name):
             own[name] = WORDS.get(name) or (camel(name) if name[0].isupper() else snake(name))
+        elif name in TACTICS:
+            own[name] = TACTICS[name]
     taken = {name for name in ours if not wants(name)} | {new for name, new in own.items() if "-" not in name}
     for name, new in own.items():
         if "-" in name and new in taken:
@@ -108,7 +112,7 @@ def turned(line, own, dashes=True):
     def one(match):
         name = match.group(0)
         new = own.get(name)
-        if new is None or ("-" in name and not dashes):
+        if new is None or ("-" in name and not dashes) or (name in TACTICS and "Prim." in line):
             return name
         return new
 

@@ -5,7 +5,7 @@ use Rattle.std.specs.List.{range_with_len}
 use Rattle.units.specs.Quotients.{response_of}
 use Rattle.probing.specs.declared.fault.SourceFault.{SourceFault}
 use Rattle.probing.specs.Facts.{Facts, voltage, with_setting}
-use Rattle.probing.specs.Answers.{first_of, left, and_then, lowest, per_bus, read_all_of, command_of}
+use Rattle.probing.specs.Answers.{first_refusal, left, and_then, lowest, per_bus, read_all_of, command_of}
 use Rattle.campaign.specs.declared.fault.CampaignFault.{CampaignFault}
 use Rattle.campaign.specs.declared.fault.CampaignFault.TheVariants.{Source, StepOutstanding, NotThisCampaign, NotMultiple}
 use Rattle.campaign.specs.declared.fault.CampaignRefusal.{CampaignRefusal}
@@ -61,7 +61,7 @@ inverter_of (Some step) = step.inverter
 -- another source; a step outstanding; then what the source refuses: a mute meter, no inverter, a bad step, off schedule
 abbrev pub commence_of : Facts → Campaign → ℕ → ℤ → Result FreshStep CampaignFault
 commence_of f c m size =
-    first_of ((not (same f c), NotThisCampaign m) ∷ (is_some c.outstanding, StepOutstanding (inverter_of c.outstanding)) ∷ [])
+    first_refusal ((not (same f c), NotThisCampaign m) ∷ (is_some c.outstanding, StepOutstanding (inverter_of c.outstanding)) ∷ [])
     (from_source (and_then (read_all_of f) (λ _. and_then (command_of f m size) (λ _. Ok (record { inverter = m; size = size })))))
 
 -- the step is outstanding, and what was read before it is kept
@@ -106,7 +106,7 @@ change_of f c n = voltage f n -ℤ slice_index_or c.before (n - 1) (pos 0)
 -- another source, or not the outstanding step; a mute meter; an uneven change at the lowest bus
 abbrev pub collect_of : Facts → Campaign → ℕ → ℤ → Result (List ℤ) CampaignFault
 collect_of f c m size =
-    first_of ((not (same f c), NotThisCampaign m) ∷ (not (is_outstanding c m size), NotThisCampaign m) ∷ [])
+    first_refusal ((not (same f c), NotThisCampaign m) ∷ (not (is_outstanding c m size), NotThisCampaign m) ∷ [])
     (and_then (from_source (read_all_of f)) (λ _. divided_of f.buses (change_of f c) size))
 
 -- one column is replaced, and every other stays
@@ -130,7 +130,7 @@ pub record Collects (f : Facts) (c : Campaign) (step : FreshStep) (answer : Resu
 -- another source, or not the outstanding step
 abbrev pub withdrawal_of : Facts → Campaign → ℕ → ℤ → Result (Unit {0}) CampaignFault
 withdrawal_of f c m size =
-    first_of ((not (same f c), NotThisCampaign m) ∷ (not (is_outstanding c m size), NotThisCampaign m) ∷ []) (Ok tt)
+    first_refusal ((not (same f c), NotThisCampaign m) ∷ (not (is_outstanding c m size), NotThisCampaign m) ∷ []) (Ok tt)
 
 -- no step is outstanding
 abbrev pub ended : Campaign → Campaign

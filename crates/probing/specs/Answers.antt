@@ -6,9 +6,9 @@ use Rattle.probing.specs.declared.fault.SourceFault.TheVariants.{NoInverter, Bad
 use Rattle.probing.specs.Facts.{Facts, metered, voltage, with_setting}
 
 -- the refusal of the first condition that holds, or else the answer
-abbrev pub first_of : {T E : Type 0} → List (Bool × E) → Result T E → Result T E
-first_of [] answer = answer
-first_of (c ∷ cs) answer = cond c.0 (Err c.1) (first_of cs answer)
+abbrev pub first_refusal : {T E : Type 0} → List (Bool × E) → Result T E → Result T E
+first_refusal [] answer = answer
+first_refusal (c ∷ cs) answer = cond c.0 (Err c.1) (first_refusal cs answer)
 
 -- what a call leaves: the new if it is accepted, and the old if it is refused
 abbrev pub left : {T E X : Type 0} → Result T E → X → X → X
@@ -30,12 +30,12 @@ on_schedule f m = unsigned_abs (f.setting m) == 0
 
 -- reading bus n
 abbrev pub read_of : Facts → ℕ → Result ℤ SourceFault
-read_of f n = first_of ((not (metered f n && not (f.mute n)), Unreadable n) ∷ []) (Ok (voltage f n))
+read_of f n = first_refusal ((not (metered f n && not (f.mute n)), Unreadable n) ∷ []) (Ok (voltage f n))
 
 -- commanding inverter m a step
 abbrev pub command_of : Facts → ℕ → ℤ → Result (Unit {0}) SourceFault
 command_of f m step =
-    first_of ((not (f.inverter m), NoInverter m) ∷ (not (admissible step), BadStep m) ∷ (not (on_schedule f m), OffSchedule m) ∷ [])
+    first_refusal ((not (f.inverter m), NoInverter m) ∷ (not (admissible step), BadStep m) ∷ (not (on_schedule f m), OffSchedule m) ∷ [])
     (Ok tt)
 
 -- the facts behind a command
@@ -44,7 +44,7 @@ commanded f m step = left (command_of f m step) (with_setting f m step) f
 
 -- withdrawing inverter m
 abbrev pub withdraw_of : Facts → ℕ → Result (Unit {0}) SourceFault
-withdraw_of f m = first_of ((not (f.inverter m), NoInverter m) ∷ []) (Ok tt)
+withdraw_of f m = first_refusal ((not (f.inverter m), NoInverter m) ∷ []) (Ok tt)
 
 -- the facts behind a withdrawal
 abbrev pub withdrawn : Facts → ℕ → Facts

@@ -6,7 +6,7 @@ use Rattle.feeder.specs.Way.{is_in}
 use Rattle.probing.specs.declared.fault.SourceFault.{SourceFault}
 use Rattle.probing.specs.declared.fault.SourceFault.TheVariants.{MapSize, InverterEntry, StandingCount, StandingEntry}
 use Rattle.probing.specs.Facts.{Facts}
-use Rattle.probing.specs.Answers.{first_of}
+use Rattle.probing.specs.Answers.{first_refusal}
 use Rattle.sources.specs.declared.feeder_source.FeederSource.{FeederSource}
 use Rattle.sources.specs.TableFacts.{within}
 use Rattle.sources.specs.LineFacts.{line_facts, standing_of, feeder_facts}
@@ -55,9 +55,9 @@ made_facts F inverters standing =
 -- the refusal of the first condition that holds, or else the facts of the made source
 abbrev pub make_of : List Line → List ℕ → List ℤ → Result Facts SourceFault
 make_of F inverters standing =
-    first_of ((not (within 64 (length F)), MapSize (length F)) ∷ [])
+    first_refusal ((not (within 64 (length F)), MapSize (length F)) ∷ [])
     (refused_at (first_misplaced (length F) inverters) InverterEntry
-    (first_of ((not (length standing == length F), StandingCount (length standing)) ∷ [])
+    (first_refusal ((not (length standing == length F), StandingCount (length standing)) ∷ [])
     (refused_at (first_too_far standing) StandingEntry
     (Ok (made_facts F inverters standing)))))
 

@@ -6,7 +6,7 @@ use Rattle.std.proofs.lemmas.List.{get_or-set_same, get_or-set_other, set_past}
 use Rattle.std.proofs.lemmas.Bool.{cases_lt, cases_eq, cases_Bool, leb-true, and_parts, cond-true, cond-false}
 use Rattle.probing.specs.declared.fault.SourceFault.{SourceFault}
 use Rattle.probing.specs.declared.fault.SourceFault.TheVariants.{NoInverter, BadStep, OffSchedule}
-use Rattle.probing.specs.Answers.{admissible, first_of, command_of}
+use Rattle.probing.specs.Answers.{admissible, first_refusal, command_of}
 use Rattle.probing.specs.Facts.{Facts, replaced, with_settings, with_setting}
 use Rattle.files.specs.declared.table.Table.{Table}
 use Rattle.files.specs.Numbers.{probe_of}
@@ -54,12 +54,12 @@ setting_replaced inverter settings m v there placed l = fun_ext (λ k. ⊎_elim 
 
 -- what lets a command through, told by the facts
 pub admitted : (f : Facts) (m : ℕ) (step : ℤ) (there : Bool) (setting : ℤ) → there ≡ f.inverter m → setting ≡ f.setting m →
-    first_of ((not there, NoInverter m) ∷ (not (admissible step), BadStep m) ∷ (not (unsigned_abs setting == 0), OffSchedule m) ∷ []) (Ok tt) ≡ command_of f m step
+    first_refusal ((not there, NoInverter m) ∷ (not (admissible step), BadStep m) ∷ (not (unsigned_abs setting == 0), OffSchedule m) ∷ []) (Ok tt) ≡ command_of f m step
 admitted f m step there setting e s =
     ap (λ (t : Bool). command t setting) e ∙ ap (λ (z : ℤ). command (f.inverter m) z) s
   where
     command : Bool → ℤ → Result (Unit {0}) SourceFault
-    command t z = first_of ((not t, NoInverter m) ∷ (not (admissible step), BadStep m) ∷ (not (unsigned_abs z == 0), OffSchedule m) ∷ []) (Ok tt)
+    command t z = first_refusal ((not t, NoInverter m) ∷ (not (admissible step), BadStep m) ∷ (not (unsigned_abs z == 0), OffSchedule m) ∷ []) (Ok tt)
 
 -- an inverter is a metered bus
 pub probed_first : (t : Table) (k : ℕ) → probed t k ≡ true → 1 ≤ k

@@ -1,6 +1,6 @@
 ghost use Rattle.std.specs.Prelude.{◌≡◌, ◌<◌, ◌≤◌, true, not, [], ◌∷◌, ◌*ℤ◌, Ok, OnOk, ◌==◌, slice_set, unsigned_abs};
 ghost use Rattle.probing.specs.declared.fault.SourceFault.TheVariants.{NoInverter, BadStep, OffSchedule};
-ghost use Rattle.probing.specs.Answers.{admissible, first_of};
+ghost use Rattle.probing.specs.Answers.{admissible, first_refusal};
 ghost use Rattle.probing.specs.Facts.{Facts, Bounded, share, sum_to};
 
 use probing::SourceFault;
@@ -45,7 +45,7 @@ pub(crate) fn admit(
     inverter: usize,
     step: i32,
 ) -> Result<(), SourceFault>
-    ensures value { result ≡ first_of ((not there, NoInverter inverter) ∷ (not (admissible step), BadStep inverter) ∷ (not (unsigned_abs setting == 0), OffSchedule inverter) ∷ []) (Ok tt) }
+    ensures value { result ≡ first_refusal ((not there, NoInverter inverter) ∷ (not (admissible step), BadStep inverter) ∷ (not (unsigned_abs setting == 0), OffSchedule inverter) ∷ []) (Ok tt) }
     ensures accepts { OnOk result ((there ≡ true) × (unsigned_abs step ≤ 1000)) }
 {
     if !there {

@@ -17,7 +17,7 @@ use Rattle.maps.proofs.Trips.{written_maps_are_read}
 use Rattle.probing.specs.declared.fault.SourceFault.TheVariants.{MapSize, InverterEntry, StandingCount, StandingEntry}
 use Rattle.sources.specs.declared.feeder_source.FeederSource.{FeederSource}
 use Rattle.probing.specs.Facts.{Facts, Bounded}
-use Rattle.probing.specs.Answers.{first_of}
+use Rattle.probing.specs.Answers.{first_refusal}
 use Rattle.sources.specs.TableFacts.{within}
 use Rattle.sources.specs.LineMaking.{meaning, refused_at, first_misplaced, first_too_far, made_facts, make_of}
 use Rattle.sources.specs.Lines.{feeder_bounded}
@@ -36,7 +36,7 @@ use Rattle.survey.proofs.Ending.{Ends, bare, none, some, ends}
 
 -- A call whose refusals come one after another, accepted.
 
-first_ok : {T E : Type 0} (b : Bool) (fault : E) (answer : Result T E) (x : T) → first_of ((b, fault) ∷ []) answer ≡ Ok x → (b ≡ false) × (answer ≡ Ok x)
+first_ok : {T E : Type 0} (b : Bool) (fault : E) (answer : Result T E) (x : T) → first_refusal ((b, fault) ∷ []) answer ≡ Ok x → (b ≡ false) × (answer ≡ Ok x)
 first_ok true fault answer x e = absurd (both_ways true (sym (ap is_ok e)) refl)
 first_ok false fault answer x e = (refl, e)
 

@@ -1,7 +1,7 @@
 ghost use Rattle.std.specs.Prelude.{◌≡◌};
 ghost use Rattle.probing.specs.Facts.{share};
 ghost use Rattle.sources.specs.TableFacts.{within, probed, table_facts};
-ghost use Rattle.std.proofs.Common.{rules, arith};
+ghost use Rattle.std.proofs.Common.{rules};
 
 use crate::model::{ShareModel, admit, product, put, shares};
 use crate::table_source::TableSource;
@@ -24,7 +24,7 @@ impl TableSource {
 impl ShareModel for TableSource {
     ghost model = { λ s. table_facts s.table s.settings };
 
-    ghost lawful = { first_of (Prim.search rules, Prim.grind (arith, Self.row.coded.inj)) };
+    ghost lawful = { Prim.search rules };
 
     fn count(&self) -> usize {
         self.table.buses
@@ -44,7 +44,7 @@ impl ShareModel for TableSource {
 impl Source for TableSource {
     ghost facts = { λ s. table_facts s.table s.settings };
 
-    ghost bounded = { first_of (Prim.search rules, Prim.grind (arith, Self.row.coded.inj)) };
+    ghost bounded = { Prim.search rules };
 
     fn buses(&self) -> usize {
         self.table.buses
