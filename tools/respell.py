@@ -1,11 +1,12 @@
 #!/usr/bin/env python3
 """Brings the names of this repository's definitions and lemmas to one spelling: words in snake case, types in camel case.
 
-usage: python3 tools/respell.py [--check]        at the top of the repository, after the toolchain's own script
+usage: python3 tools/respell.py [--check] [--names]        at the top of the repository, once, after the toolchain's own script
 
 What is renamed is declared in crates/*/specs or crates/*/proofs: definitions, lemmas, fields, constructors and locals. Names that
 come from a source file or that the toolchain makes keep their spelling. The crate csv, whose name the toolchain's libraries have,
-becomes rfc4180. With --check nothing is written, and names that would fall together are shown either way.
+becomes rfc4180. With --check nothing is written, with --names the table of names is shown, and names that would fall together are shown
+either way.
 """
 
 import collections
