@@ -54,7 +54,7 @@ abbrev pub one_each : Facts → ℤ → ℕ → List (ℕ × ℤ)
 one_each f size zero = []
 one_each f size (suc k) = cond (f.inverter (suc k)) ((suc k, size) ∷ one_each f size k) (one_each f size k)
 
--- a campaign whose steps were commenced in rising order, one of this size for each inverter
+-- a campaign to which a history leads whose steps were commenced in rising order, one of this size for each inverter
 pub record InRisingOrder (f : Facts) (size : ℤ) (c : Campaign) : Type 0 where
   pub calls : Calls ⊥
   pub history : History NoLook f (opening_of f) calls f c

@@ -27,7 +27,7 @@ use Rattle.campaign.proofs.Looks.{among, history_among, collected_among}
 use Rattle.campaign.proofs.Whole.{buses, has, all_collected, campaign_law}
 use Rattle.survey.specs.declared.fault.ProgramFault.{ProgramFault}
 use Rattle.survey.specs.declared.fault.ProgramFault.TheVariants.{Campaign as InCampaign, Drawing as InDrawing}
-use Rattle.survey.specs.Surveys as told
+use Rattle.survey.specs.Surveys as surveying
 use Rattle.survey.specs.Surveys.{Holds, mute, Surveys, muted, unequipped, nowhere, drawn}
 use Rattle.survey.proofs.Probing.{step, facts, on_schedule_lem, bounded, refused_mute, accepted_heard}
 
@@ -42,7 +42,7 @@ bare_of Complete f = None
 bare_of Reduced f = lowest f.buses (λ n. not (f.inverter n))
 
 -- the same of a file's table
-bare_told : (kind : Kind) (t : Table) → bare_of kind (facts t) ≡ told.bare kind t
+bare_told : (kind : Kind) (t : Table) → bare_of kind (facts t) ≡ surveying.bare kind t
 bare_told Complete t = refl
 bare_told Reduced t = refl
 
