@@ -14,12 +14,12 @@ use Rattle.campaign.specs.declared.fault.CampaignFault.{CampaignFault}
 use Rattle.campaign.specs.declared.fault.CampaignFault.TheVariants.{StepOutstanding, NotThisCampaign}
 use Rattle.campaign.specs.declared.fault.CampaignRefusal.{CampaignRefusal}
 use Rattle.campaign.specs.declared.state.Campaign.{Campaign}
-use Rattle.campaign.specs.declared.state.Column.{Column}
 use Rattle.campaign.specs.declared.state.Outstanding.{Outstanding}
-use Rattle.campaign.specs.declared.steps.FreshStep.{FreshStep}
-use Rattle.campaign.specs.declared.steps.CollectedStep.{CollectedStep}
-use Rattle.campaign.specs.Columns.{numbered, has_inverter, alike, same, is_step, is_outstanding, blank, column_of, present, entry}
-use Rattle.campaign.specs.Relations.{inverter_list, zeros, no_columns, opening_of, from_source, naming, handing_back, inverter_of, commence_of, commenced, Commences, or_zero, quotients, change_of, collect_of, collected, as_collected, Collects, withdrawal_of, ended, Withdraws}
+use Rattle.campaign.specs.declared.steps.Step.{Step}
+use Rattle.campaign.specs.declared.steps.Fresh.{Fresh}
+use Rattle.campaign.specs.declared.steps.Collected.{Collected}
+use Rattle.campaign.specs.Columns.{numbered, has_inverter, alike, same, is_step, is_outstanding, blank, column_of, present, entry_in, entry}
+use Rattle.campaign.specs.Relations.{step_of, inverter_list, no_columns, opening_of, from_source, naming, handing_back, inverter_of, commence_of, commenced, Commences, or_zero, quotients, change_of, collect_of, collected, as_collected, Collects, withdrawal_of, ended, Withdraws}
 use Rattle.campaign.specs.History.{Crew, Call, Calls, commencing, collecting, withdrawing, withdrawing_fresh, looking, outstanding, collected_for, Happens, History, opened, called, settings_with, Law}
 use Rattle.campaign.proofs.Lists.{inverters_at, all_empty, alike_self, outstanding_has}
 use Rattle.campaign.proofs.Quotients.{divided_back}
@@ -37,7 +37,7 @@ named : {T : Type 0} (m : ℕ) (r : Result T CampaignFault) (x : T) → Ok x ≡
 named m (Ok y) x h = ok_same x y h
 named m (Err e) x h = absurd (let z : ◌≡◌ {A = ℕ} 0 1 = cc in omega arith)
 
-handed : {Step T : Type 0} (step : Step) (r : Result T CampaignRefusal) (x : T) → Ok x ≡ handing_back step r → Ok x ≡ r
+handed : {S T : Type 0} (step : S) (r : Result T CampaignRefusal) (x : T) → Ok x ≡ handing_back step r → Ok x ≡ r
 handed step (Ok y) x h = ok_same x y h
 handed step (Err e) x h = absurd (let z : ◌≡◌ {A = ℕ} 0 1 = cc in omega arith)
 
@@ -60,7 +60,7 @@ pub record Commencing (f : Facts) (c : Campaign) (m : ℕ) (size : ℤ) : Type 0
   pub read : Ok readings ≡ read_all_of f
   pub command : Ok tt ≡ command_of f m size
 
-pub commence_accepted : (f : Facts) (c : Campaign) (m : ℕ) (size : ℤ) (x : FreshStep) → Ok x ≡ naming m (commence_of f c m size) → Commencing f c m size
+pub commence_accepted : (f : Facts) (c : Campaign) (m : ℕ) (size : ℤ) (x : Step Fresh) → Ok x ≡ naming m (commence_of f c m size) → Commencing f c m size
 commence_accepted f c m size x h =
     let first = cut (not (same f c)) (NotThisCampaign m) _ x (named m (commence_of f c m size) x h) in
     let second = cut (is_some c.outstanding) (StepOutstanding (inverter_of c.outstanding)) _ x first.1 in
@@ -70,7 +70,7 @@ commence_accepted f c m size x h =
     record { match = not-false _ first.0; free = none_from _ second.0; readings = reading.0; read = reading.1; command = accepted _ _ commanding.1 }
 
 -- the step that it hands out
-pub commence_gives : (f : Facts) (c : Campaign) (m : ℕ) (size : ℤ) (x : FreshStep) → Ok x ≡ naming m (commence_of f c m size) → x ≡ record { inverter = m; size = size }
+pub commence_gives : (f : Facts) (c : Campaign) (m : ℕ) (size : ℤ) (x : Step Fresh) → Ok x ≡ naming m (commence_of f c m size) → x ≡ step_of m size
 commence_gives f c m size x h =
     let first = cut (not (same f c)) (NotThisCampaign m) _ x (named m (commence_of f c m size) x h) in
     let second = cut (is_some c.outstanding) (StepOutstanding (inverter_of c.outstanding)) _ x first.1 in
@@ -98,18 +98,18 @@ pub record Collecting (f : Facts) (c : Campaign) (m : ℕ) (size : ℤ) : Type 0
   pub match : same f c ≡ true
   pub step : is_outstanding c m size ≡ true
 
-as_ok : (step : FreshStep) (r : Result (List ℤ) CampaignFault) (x : CollectedStep) → Ok x ≡ as_collected step r → (y : List ℤ) × (Ok y ≡ r)
+as_ok : (step : Step Fresh) (r : Result (List ℤ) CampaignFault) (x : Step Collected) → Ok x ≡ as_collected step r → (y : List ℤ) × (Ok y ≡ r)
 as_ok step (Ok y) x h = (y, refl)
 as_ok step (Err e) x h = absurd (let z : ◌≡◌ {A = ℕ} 0 1 = cc in omega arith)
 
-pub collect_accepted : (f : Facts) (c : Campaign) (step : FreshStep) (x : CollectedStep) → Ok x ≡ handing_back step (naming step.inverter (as_collected step (collect_of f c step.inverter step.size))) → Collecting f c step.inverter step.size
+pub collect_accepted : (f : Facts) (c : Campaign) (step : Step Fresh) (x : Step Collected) → Ok x ≡ handing_back step (naming step.inverter (as_collected step (collect_of f c step.inverter step.size))) → Collecting f c step.inverter step.size
 collect_accepted f c step x h =
     let divided = as_ok step (collect_of f c step.inverter step.size) x (named step.inverter _ x (handed step _ x h)) in
     let first = cut (not (same f c)) (NotThisCampaign step.inverter) _ divided.0 divided.1 in
     let second = cut (not (is_outstanding c step.inverter step.size)) (NotThisCampaign step.inverter) _ divided.0 first.1 in
     record { match = not-false _ first.0; step = not-false _ second.0 }
 
-pub withdraw_accepted : {Step : Type 0} (f : Facts) (c : Campaign) (step : Step) (m : ℕ) (size : ℤ) (x : Unit {0}) → Ok x ≡ handing_back step (naming m (withdrawal_of f c m size)) → Collecting f c m size
+pub withdraw_accepted : {S : Type 0} (f : Facts) (c : Campaign) (step : S) (m : ℕ) (size : ℤ) (x : Unit {0}) → Ok x ≡ handing_back step (naming m (withdrawal_of f c m size)) → Collecting f c m size
 withdraw_accepted f c step m size x h =
     let whole = named m (withdrawal_of f c m size) x (handed step _ x h) in
     let first = cut (not (same f c)) (NotThisCampaign m) _ x whole in
@@ -140,21 +140,18 @@ stay {f₀} {o} {got} {f} {f'} {c} {c'} h ef ec = subst (λ x. Sound f₀ o got 
 
 -- the opening
 
-abbrev blank_with : List ℤ → Column
-blank_with responses = record { present = false; responses = responses }
+all_blank : (n k : ℕ) → is_some (get_or (replicate n blank) k blank) ≡ false
+all_blank zero k = refl
+all_blank (suc n) zero = refl
+all_blank (suc n) (suc k) = all_blank n k
 
-all_blank : (n k : ℕ) (responses : List ℤ) → (get_or (replicate n (record { present = false; responses = responses })) k blank).present ≡ false
-all_blank zero k responses = refl
-all_blank (suc n) zero responses = refl
-all_blank (suc n) (suc k) responses = all_blank n k responses
-
-no_column : (m : ℕ) → (get_or no_columns (m - 1) blank).present ≡ false
+no_column : (m : ℕ) → is_some (get_or no_columns (m - 1) blank) ≡ false
 unfolding no_columns
-no_column m = all_blank 64 (m - 1) zeros
+no_column m = all_blank 64 (m - 1)
 
 no_columns_long : length no_columns ≡ 64
 unfolding no_columns
-no_columns_long = length-replicate 64 (blank_with zeros)
+no_columns_long = length-replicate 64 blank
 
 pub start : (f₀ : Facts) → Sound f₀ None (λ _. false) f₀ (opening_of f₀)
 start f₀ =
@@ -165,7 +162,7 @@ start f₀ =
       inverters = refl;
       long = no_columns_long;
       pending = λ m size e. absurd (let z : ◌≡◌ {A = ℕ} 0 1 = cc in omega arith);
-      columns = λ m h. absurd (both_ways _ (no_column m) (and_parts (numbered m) (column_of (opening_of f₀) m).present h).1);
+      columns = λ m h. absurd (both_ways _ (no_column m) (and_parts (numbered m) (is_some (column_of (opening_of f₀) m)) h).1);
       collected = λ m h. absurd (false≢true h);
     }
 
@@ -219,19 +216,16 @@ withdraws f₀ got c m size h =
 numbered_parts : (m : ℕ) → numbered m ≡ true → (1 ≤ m) × (m ≤ 64)
 numbered_parts m h = let parts = and_parts (leb 1 m) (leb m 64) h in (leb-true _ _ parts.0, leb-true _ _ parts.1)
 
-abbrev filled_with : List ℤ → Column
-filled_with responses = record { present = true; responses = responses }
-
-column_here : (c : Campaign) (m : ℕ) (responses : List ℤ) → length c.columns ≡ 64 → numbered m ≡ true → column_of (collected c m responses) m ≡ filled_with responses
+column_here : (c : Campaign) (m : ℕ) (responses : List ℤ) → length c.columns ≡ 64 → numbered m ≡ true → column_of (collected c m responses) m ≡ Some responses
 column_here c m responses long number =
     let within = numbered_parts m number in
-    get_or-set_same c.columns (m - 1) (filled_with responses) blank (omega (arith, long, within.0, within.1))
+    get_or-set_same c.columns (m - 1) (Some responses) blank (omega (arith, long, within.0, within.1))
 
 column_there : (c : Campaign) (m k : ℕ) (responses : List ℤ) → numbered m ≡ true → numbered k ≡ true → (k ≡ m → ⊥) → column_of (collected c m responses) k ≡ column_of c k
 column_there c m k responses number number' other =
     let within = numbered_parts m number in
     let within' = numbered_parts k number' in
-    get_or-set_other c.columns (m - 1) (k - 1) (filled_with responses) blank (λ e. other (omega (arith, within.0, within'.0, e)))
+    get_or-set_other c.columns (m - 1) (k - 1) (Some responses) blank (λ e. other (omega (arith, within.0, within'.0, e)))
 
 -- the change at each bus is its response times the step, and the quotient its response
 pub change_is : (f₀ : Facts) → Bounded f₀ → (c : Campaign) (m : ℕ) (size : ℤ) → Pending f₀ c m size → (n : ℕ) → metered f₀ n ≡ true → change_of (with_setting f₀ m size) c n ≡ f₀.response n m *ℤ size
@@ -249,12 +243,12 @@ abbrev column : Facts → Campaign → ℕ → ℤ → List ℤ
 column f₀ c m size = quotients f₀.buses (change_of (with_setting f₀ m size) c) size
 
 present_here : (f₀ : Facts) (c : Campaign) (m : ℕ) (size : ℤ) → length c.columns ≡ 64 → numbered m ≡ true → present (collected c m (column f₀ c m size)) m ≡ true
-present_here f₀ c m size long number = and_from _ _ number (ap (λ (col : Column). col.present) (column_here c m (column f₀ c m size) long number))
+present_here f₀ c m size long number = and_from _ _ number (ap (λ col. is_some col) (column_here c m (column f₀ c m size) long number))
 
 entry_here : (f₀ : Facts) → Bounded f₀ → (c : Campaign) (m : ℕ) (size : ℤ) → length c.columns ≡ 64 → numbered m ≡ true → Pending f₀ c m size → (n : ℕ) → metered f₀ n ≡ true → entry (collected c m (column f₀ c m size)) n m ≡ f₀.response n m
 entry_here f₀ bounds c m size long number p n here =
     let parts = and_parts (leb 1 n) (leb n f₀.buses) here in
-    ap (λ (col : Column). get_or col.responses (n - 1) (pos 0)) (column_here c m (column f₀ c m size) long number) ∙
+    ap (λ col. entry_in col n) (column_here c m (column f₀ c m size) long number) ∙
     per_bus_of f₀.buses (λ k. or_zero (response_of (change_of (with_setting f₀ m size) c k) size)) n bounds.few (leb-true _ _ parts.0) (leb-true _ _ parts.1) ∙
     quotient_is f₀ bounds c m size p n here
 
@@ -264,10 +258,10 @@ collects_columns f₀ bounds got c m size number h k there =
       | inl same ↦ subst (λ j. (f₀.inverter j ≡ true) × ((n : ℕ) → metered f₀ n ≡ true → entry (collected c m (column f₀ c m size)) n j ≡ f₀.response n j)) (sym same)
           ((h.pending m size refl).there, entry_here f₀ bounds c m size h.long number (h.pending m size refl))
       | inr other ↦
-          let parts = and_parts (numbered k) (column_of (collected c m (column f₀ c m size)) k).present there in
+          let parts = and_parts (numbered k) (is_some (column_of (collected c m (column f₀ c m size)) k)) there in
           let is = column_there c m k (column f₀ c m size) number parts.0 other in
-          let old = h.columns k (and_from _ _ parts.0 (ap (λ (col : Column). col.present) (sym is) ∙ parts.1)) in
-          (old.0, λ n here. ap (λ (col : Column). get_or col.responses (n - 1) (pos 0)) is ∙ old.1 n here)
+          let old = h.columns k (and_from _ _ parts.0 (ap (λ col. is_some col) (sym is) ∙ parts.1)) in
+          (old.0, λ n here. ap (λ col. entry_in col n) is ∙ old.1 n here)
     ]
 
 collects_present : (f₀ : Facts) (got : ℕ → Bool) (c : Campaign) (m : ℕ) (size : ℤ) → numbered m ≡ true → Sound f₀ (at m size) got (with_setting f₀ m size) c → (k : ℕ) → (eqb m k || got k) ≡ true → present (collected c m (column f₀ c m size)) k ≡ true
@@ -276,8 +270,8 @@ collects_present f₀ got c m size number h k have =
       | inl same ↦ subst (λ j. present (collected c m (column f₀ c m size)) j ≡ true) (sym same) (present_here f₀ c m size h.long number)
       | inr other ↦
           let before : got k ≡ true = elim (or_cases (eqb m k) (got k) have) [ inl e ↦ absurd (other (sym (eqb-true _ _ e))) | inr e ↦ e ] in
-          let parts = and_parts (numbered k) (column_of c k).present (h.collected k before) in
-          and_from _ _ parts.0 (ap (λ (col : Column). col.present) (column_there c m k (column f₀ c m size) number parts.0 other) ∙ parts.1)
+          let parts = and_parts (numbered k) (is_some (column_of c k)) (h.collected k before) in
+          and_from _ _ parts.0 (ap (λ col. is_some col) (column_there c m k (column f₀ c m size) number parts.0 other) ∙ parts.1)
     ]
 
 keeps : {f₀ : Facts} {c : Campaign} (m : ℕ) (size : ℤ) (k : ℕ) (responses : List ℤ) → Pending f₀ c m size → Pending f₀ (collected c k responses) m size
@@ -290,7 +284,7 @@ collects_one f₀ bounds got c m size number h =
       remembers = h.remembers;
       buses = h.buses;
       inverters = h.inverters;
-      long = length-set c.columns (m - 1) (filled_with (column f₀ c m size)) ∙ h.long;
+      long = length-set c.columns (m - 1) (Some (column f₀ c m size)) ∙ h.long;
       pending = λ m' size' e. keeps m' size' m (column f₀ c m size) (h.pending m' size' e);
       columns = collects_columns f₀ bounds got c m size number h;
       collected = collects_present f₀ got c m size number h;
@@ -308,7 +302,7 @@ step_facts {f₀} {o} {got} {f} {c} m size h step =
     let is = sym h.remembers ∙ outstanding_is c m size step in
     (is, h.facts ∙ ap (λ p. with_settings f₀ (settings_with f₀.setting p)) is)
 
-after_commencing : (f₀ : Facts) (o : Option Outstanding) (got : ℕ → Bool) (f f' : Facts) (c c' : Campaign) (m : ℕ) (size : ℤ) (x : FreshStep) → Commences f c m size (Ok x) f' c' → Sound f₀ o got f c → Sound f₀ (at m size) got f' c'
+after_commencing : (f₀ : Facts) (o : Option Outstanding) (got : ℕ → Bool) (f f' : Facts) (c c' : Campaign) (m : ℕ) (size : ℤ) (x : Step Fresh) → Commences f c m size (Ok x) f' c' → Sound f₀ o got f c → Sound f₀ (at m size) got f' c'
 after_commencing f₀ o got f f' c c' m size x r h =
     let ok = commence_accepted f c m size x r.answers in
     let free = free_facts h ok.free in
@@ -316,7 +310,7 @@ after_commencing f₀ o got f f' c c' m size x r h =
     let ok₀ : Commencing f₀ c m size = subst (λ g. Commencing g c m size) free.1 ok in
     stay (commences f₀ got c m size ok₀ h₀) (r.source ∙ ap (λ g. with_setting g m size) free.1) (r.campaign ∙ ap (λ g. commenced g c m size) free.1)
 
-after_collecting : (f₀ : Facts) → Bounded f₀ → (o : Option Outstanding) (got : ℕ → Bool) (f f' : Facts) (c c' : Campaign) (step : FreshStep) (x : CollectedStep) → Collects f c step (Ok x) f' c' → Sound f₀ o got f c → Sound f₀ o (λ k. eqb step.inverter k || got k) f' c'
+after_collecting : (f₀ : Facts) → Bounded f₀ → (o : Option Outstanding) (got : ℕ → Bool) (f f' : Facts) (c c' : Campaign) (step : Step Fresh) (x : Step Collected) → Collects f c step (Ok x) f' c' → Sound f₀ o got f c → Sound f₀ o (λ k. eqb step.inverter k || got k) f' c'
 after_collecting f₀ bounds o got f f' c c' step x r h =
     let m = step.inverter in
     let size = step.size in
@@ -327,7 +321,7 @@ after_collecting f₀ bounds o got f f' c c' step x r h =
     subst (λ p. Sound f₀ p (λ k. eqb m k || got k) f' c') (sym is.0)
     (stay (collects_one f₀ bounds got c m size number h₁) (r.source ∙ is.1) (r.campaign ∙ ap (λ (g : Facts). collected c m (quotients g.buses (change_of g c) size)) is.1))
 
-after_withdrawing : {Step : Type 0} (f₀ : Facts) (o : Option Outstanding) (got : ℕ → Bool) (f f' : Facts) (c c' : Campaign) (step : Step) (m : ℕ) (size : ℤ) (x : Unit {0}) → Withdraws f c step m size (Ok x) f' c' → Sound f₀ o got f c → Sound f₀ None got f' c'
+after_withdrawing : {S : Type 0} (f₀ : Facts) (o : Option Outstanding) (got : ℕ → Bool) (f f' : Facts) (c c' : Campaign) (step : S) (m : ℕ) (size : ℤ) (x : Unit {0}) → Withdraws f c step m size (Ok x) f' c' → Sound f₀ o got f c → Sound f₀ None got f' c'
 after_withdrawing f₀ o got f f' c c' step m size x r h =
     let ok = withdraw_accepted f c step m size x r.answers in
     let is = step_facts m size h ok.step in

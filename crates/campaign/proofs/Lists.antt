@@ -1,8 +1,15 @@
 -- The inverters of a source as a list, and a test on all of 1 to k.
-use Rattle.std.proofs.Common.{◌≡◌, ℕ, zero, suc, ◌+◌, ◌-◌, ◌<◌, ◌≤◌, Bool, true, false, not, ◌&&◌, eqb, leb, List, length, get_or, set, replicate, ℤ, Ok, Err, sym, refl, ap, ◌∙◌, inl, inr, add-one, arith, length-set, get_or-set_other, get_or-set_same}
+use Rattle.std.proofs.Common.{◌≡◌, ℕ, zero, suc, ◌+◌, ◌-◌, ◌<◌, ◌≤◌, Bool, true, false, ◌&&◌, eqb, leb, List, length, get_or, ℤ, Ok, Err, sym, refl, ap, ◌∙◌, subst, inl, inr, add-one, arith}
 use mathlib.Core.Bool.{beq}
+use denote.Param.Members.{Mut}
+use Rattle.std.specs.Fn.{Called}
+use Rattle.std.specs.Array.{IsFromFnResultFrom, IsFromFnResult}
+use Rattle.std.specs.Cmp.{booleans_Decides}
+use Rattle.std.specs.Cmp.Lexicographic.{pointwise}
+use Rattle.std.proofs.lemmas.Bool.Decides.{same_from_decides}
+use Rattle.std.proofs.lemmas.Slice.Eq.{slice_eq-Decides}
 use Rattle.std.proofs.lemmas.List.FromFn.{length-map-range_with_len, get_or-map-range_with_len}
-use Rattle.std.proofs.lemmas.List.{same_lists, get_or_default, length-replicate}
+use Rattle.std.proofs.lemmas.List.{same_lists, get_or_default}
 use Rattle.std.proofs.lemmas.Bool.{cases_eq, and_parts, and_from, and_left, and_right, le-leb, leb-true, eq-eqb, eqb-true}
 use Rattle.probing.specs.declared.fault.SourceFault.{SourceFault}
 use Rattle.probing.specs.Answers.{withdraw_of}
@@ -22,28 +29,25 @@ pub inverters_at : (f : Facts) (k : ℕ) (d : Bool) → k < 64 → get_or (inver
 unfolding inverter_list
 inverters_at f k d lt = get_or-map-range_with_len f.inverter 1 64 k (k + 1) d lt (omega arith)
 
--- the list in the making after i places
-pub record Listed (f : Facts) (i : ℕ) (xs : List Bool) : Type 0 where
-  pub long : length xs ≡ 64
-  pub told : (k : ℕ) → k < i → get_or xs k false ≡ f.inverter (k + 1)
+-- a list that has at each place what the source says of the bus
+pub inverters_are : (f : Facts) (xs : List Bool) (d : Bool) → length xs ≡ 64 → ((k : ℕ) → k < 64 → get_or xs k d ≡ f.inverter (k + 1)) → xs ≡ inverter_list f
+inverters_are f xs d long told =
+    same_lists xs (inverter_list f) (long ∙ sym (inverters_length f))
+    (λ k e lt. let under : k < 64 = omega (arith, long) in get_or_default xs k e d lt ∙ told k under ∙ sym (inverters_at f k e under))
 
-pub listed_none : (f : Facts) → Listed f 0 (replicate 64 false)
-listed_none f = record { long = length-replicate 64 false; told = λ k below. absurd (omega arith) }
+-- the array that a closure makes of its indices, where its calls leave it as it is
+made_at : {F B : Type 0} (g : Mut F (ℕ × Unit {0}) B) (f : F) (of : ℕ → B) → ((i : ℕ) (y : B) (q : F) → Called g f (i, tt) y q → (y ≡ of i) × (q ≡ f)) → (ys : List B) (d : B) (i n : ℕ) → IsFromFnResultFrom g f ys i n → (k : ℕ) → i ≤ k → k < i + n → get_or ys k d ≡ of k
+made_at g f of gives ys d i zero made k from below = absurd (omega arith)
+made_at g f of gives ys d i (suc n) made k from below =
+    let told = gives i made.1 made.0 made.3 in
+    elim (cases_eq k i) [
+      | inl at ↦ ap (λ j. get_or ys j d) at ∙ made.2.1 d ∙ told.0 ∙ ap of (sym at)
+      | inr other ↦ made_at g f of gives ys d (i + 1) n (subst (λ p. IsFromFnResultFrom g p ys (i + 1) n) told.1 made.4) k (omega arith) (omega arith)
+    ]
 
-set_here : (f : Facts) (i : ℕ) (xs : List Bool) (v : Bool) → i < length xs → v ≡ f.inverter (i + 1) → (k : ℕ) → k ≡ i → get_or (set xs i v) k false ≡ f.inverter (k + 1)
-set_here f i xs v lt e k at = ap (λ j. get_or (set xs i v) j false) at ∙ get_or-set_same xs i v false lt ∙ e ∙ ap (λ j. f.inverter (j + 1)) (sym at)
-
-pub listed_more : (f : Facts) (i : ℕ) (xs : List Bool) (v : Bool) → i < 64 → v ≡ f.inverter (i + 1) → Listed f i xs → Listed f (i + 1) (set xs i v)
-listed_more f i xs v lt e h =
-    record {
-      long = length-set xs i v ∙ h.long;
-      told = λ k below. elim (cases_eq k i) [ inl at ↦ set_here f i xs v (omega (arith, h.long)) e k at | inr other ↦ get_or-set_other xs i k v false other ∙ h.told k (omega arith) ];
-    }
-
-pub listed_all : (f : Facts) (i : ℕ) (xs : List Bool) → 64 ≤ i → Listed f i xs → xs ≡ inverter_list f
-listed_all f i xs all h =
-    same_lists xs (inverter_list f) (h.long ∙ sym (inverters_length f))
-    (λ k d lt. let under : k < 64 = omega (arith, h.long) in get_or_default xs k d false lt ∙ h.told k (omega arith) ∙ sym (inverters_at f k d under))
+pub inverters_made : {F : Type 0} (g : Mut F (ℕ × Unit {0}) Bool) (p : F) (f : Facts) → ((i : ℕ) (y : Bool) (q : F) → Called g p (i, tt) y q → (y ≡ f.inverter (i + 1)) × (q ≡ p)) → (xs : List Bool) → IsFromFnResult g p xs 64 → xs ≡ inverter_list f
+inverters_made g p f gives xs made =
+    inverters_are f xs false made.long (λ k under. made_at g p (λ i. f.inverter (i + 1)) gives xs false 0 64 made.each k (omega arith) (omega arith))
 
 -- a test on all of 1 to k
 
@@ -54,20 +58,6 @@ all_none test = refl
 all_suc : (k : ℕ) (test : ℕ → Bool) → all_to (suc k) test ≡ (all_to k test && test (suc k))
 unfolding all_to
 all_suc k test = refl
-
-pub all_more : (k : ℕ) (test : ℕ → Bool) → all_to k test ≡ true → test (k + 1) ≡ true → all_to (k + 1) test ≡ true
-all_more k test all here = ap (λ j. all_to j test) (add-one k) ∙ all_suc k test ∙ and_from _ _ all (ap test (sym (add-one k)) ∙ here)
-
-pub all_fails : (k : ℕ) (test : ℕ → Bool) → test (k + 1) ≡ false → all_to (k + 1) test ≡ false
-all_fails k test here = ap (λ j. all_to j test) (add-one k) ∙ all_suc k test ∙ and_right _ _ (ap test (sym (add-one k)) ∙ here)
-
-pub all_stays : (a b : ℕ) (test : ℕ → Bool) → a ≤ b → all_to a test ≡ false → all_to b test ≡ false
-all_stays a zero test le e = ap (λ k. all_to k test) (omega arith) ∙ e
-all_stays a (suc b) test le e =
-    elim (cases_eq a (suc b)) [
-      | inl at ↦ ap (λ k. all_to k test) (sym at) ∙ e
-      | inr other ↦ all_suc b test ∙ and_left _ _ (all_stays a b test (omega arith) e)
-    ]
 
 pub all_at : (k n : ℕ) (test : ℕ → Bool) → all_to k test ≡ true → 1 ≤ n → n ≤ k → test n ≡ true
 all_at zero n test all some le = absurd (omega arith)
@@ -96,32 +86,25 @@ has_at c i lt =
     ap (λ t. t && get_or c.inverters (i + 1 - 1) false) (and_from _ _ (le-leb 1 (i + 1) (omega arith)) (le-leb (i + 1) 64 (omega arith))) ∙
     ap (λ k. get_or c.inverters k false) (omega arith)
 
--- one bus of the comparison
+-- what the comparison with the source's inverters tells
 
-pub differ : (a b : Bool) → not (beq a b) ≡ true → alike a b ≡ false
-differ true true h = sym h
-differ true false h = refl
-differ false true h = refl
-differ false false h = sym h
-
-pub agree : (a b : Bool) → not (beq a b) ≡ false → alike a b ≡ true
-agree true true h = refl
-agree true false h = sym h
-agree false true h = sym h
-agree false false h = refl
-
-abbrev pub test : Facts → Campaign → ℕ → Bool
+abbrev test : Facts → Campaign → ℕ → Bool
 test f c m = alike (f.inverter m) (has_inverter c m)
 
-pub test_is : (f : Facts) (c : Campaign) (i : ℕ) (here : Bool) → i < 64 → here ≡ f.inverter (i + 1) → test f c (i + 1) ≡ alike here (get_or c.inverters i false)
-test_is f c i here lt e = ap (λ a. alike a (has_inverter c (i + 1))) (sym e) ∙ ap (alike here) (has_at c i lt)
+all_same : (f : Facts) (c : Campaign) → inverter_list f ≡ c.inverters → all_to 64 (test f c) ≡ true
+all_same f c e =
+    all_empty 64 (test f c)
+    (λ n some le. alike_self _ _ (ap f.inverter (let is : n ≡ n - 1 + 1 = omega arith in is) ∙ sym (inverters_at f (n - 1) false (omega arith)) ∙ ap (λ xs. get_or xs (n - 1) false) e ∙ sym (has_at c (n - 1) (omega arith)) ∙ ap (has_inverter c) (let is : n - 1 + 1 ≡ n = omega arith in is)))
 
-pub same_fails : (f : Facts) (c : Campaign) (i : ℕ) → i < 64 → test f c (i + 1) ≡ false → false ≡ same f c
-same_fails f c i lt h = sym (and_right _ _ (all_stays (i + 1) 64 (test f c) (omega arith) (all_fails i (test f c) h)))
+same_all : (f : Facts) (c : Campaign) → length c.inverters ≡ 64 → all_to 64 (test f c) ≡ true → c.inverters ≡ inverter_list f
+same_all f c long all =
+    inverters_are f c.inverters false long
+    (λ k under. sym (alike_true _ _ (all_at 64 (k + 1) (test f c) all (omega arith) (omega arith)) ∙ has_at c k under))
 
-pub same_holds : (f : Facts) (c : Campaign) (i : ℕ) → 64 ≤ i → i ≤ 64 → f.buses ≡ c.buses → all_to i (test f c) ≡ true → true ≡ same f c
-same_holds f c i le ge buses all =
-    sym (and_from _ _ (eq-eqb _ _ buses) (ap (λ k. all_to k (test f c)) (let is : 64 ≡ i = omega arith in is) ∙ all))
+pub same_is : (f : Facts) (c : Campaign) (r : Bool) → length c.inverters ≡ 64 → f.buses ≡ c.buses → r ≡ pointwise beq (inverter_list f) c.inverters → r ≡ same f c
+same_is f c r long buses e =
+    same_from_decides r (all_to 64 (test f c)) (slice_eq-Decides booleans_Decides _ _ r e) (λ all. sym (same_all f c long all), all_same f c) ∙
+    ap (λ t. t && all_to 64 (test f c)) (sym (eq-eqb _ _ buses))
 
 -- what a source that matches has
 pub same_buses : (f : Facts) (c : Campaign) → same f c ≡ true → f.buses ≡ c.buses

@@ -2,7 +2,7 @@
 use Rattle.std.proofs.Common.{◌≡◌, ℕ, zero, suc, ◌+◌, ◌-◌, ◌*◌, ◌/◌, ◌^◌, ◌<◌, ◌≤◌, Bool, true, false, cond, not, List, get_or, ℤ, pos, negsuc, ◌-ℤ◌, ◌*ℤ◌, nat_abs, is_some, Some, None, Ok, Err, Option, sym, refl, ap, ◌∙◌, subst, inl, inr, mul-div_cancel, arith, w32, w64, SFits}
 use borrow.Author.Differences.{up, down, product_is}
 use lib.Signed.{mag, nat_abs-le}
-use Rattle.std.proofs.lemmas.Int.{ints}
+use Rattle.std.proofs.lemmas.Int.{ints, unsigned_abs-mul}
 use Rattle.std.proofs.lemmas.Nat.{mul-le}
 use Rattle.std.proofs.lemmas.Bool.{cases_eq, cond-true, eq-eqb}
 use Rattle.probing.specs.Facts.{Facts, Bounded, voltage}
@@ -14,7 +14,7 @@ use Rattle.campaign.specs.Columns.{same, is_outstanding}
 use Rattle.campaign.specs.Relations.{from_source, or_zero, quotients, evenly, divided_of, difference, change_of, collect_of}
 use Rattle.campaign.proofs.Lists.{same_buses}
 use Rattle.units.specs.Quotients.{Divides, Moderate, response_of}
-use Rattle.units.proofs.Division.{divides, abs_times}
+use Rattle.units.proofs.Division.{divides}
 
 unsigned_abs_zero : (z : ℤ) → nat_abs z ≡ 0 → z ≡ pos 0
 unsigned_abs_zero z h = omega (arith, ints)
@@ -33,7 +33,7 @@ mag_below (negsuc n) h lt = omega arith
 product_fits : (q change step : ℤ) → nat_abs q ≤ 1000000 → SFits w32 step → q *ℤ step ≡ change → SFits w64 change
 product_fits q change step m fits e =
     let most = mul-le (nat_abs q) (nat_abs step) 1000000 (2 ^ 31) m (nat_abs-le step fits.sfits) in
-    let is = abs_times q step in
+    let is = unsigned_abs-mul q step in
     let at = ap nat_abs e in
     record { sfits = mag_below change (2 ^ 63) (omega (arith, most, is, at)) }
 

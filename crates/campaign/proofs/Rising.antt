@@ -9,9 +9,10 @@ use Rattle.probing.proofs.Readings.{lowest_none, lowest_more, lowest_here, lowes
 use Rattle.campaign.specs.declared.fault.CampaignFault.TheVariants.{NotThisCampaign, StepOutstanding}
 use Rattle.campaign.specs.declared.fault.CampaignRefusal.{CampaignRefusal}
 use Rattle.campaign.specs.declared.state.Campaign.{Campaign}
-use Rattle.campaign.specs.declared.steps.FreshStep.{FreshStep}
+use Rattle.campaign.specs.declared.steps.Step.{Step}
+use Rattle.campaign.specs.declared.steps.Fresh.{Fresh}
 use Rattle.campaign.specs.Columns.{same}
-use Rattle.campaign.specs.Relations.{opening_of, from_source, naming, inverter_of, commence_of, Commences}
+use Rattle.campaign.specs.Relations.{step_of, opening_of, from_source, naming, inverter_of, commence_of, Commences}
 use Rattle.campaign.specs.History.{first, commencing, collecting, withdrawing, Calls, outstanding, collected_for, History, opened, called, settings_with, Kept}
 use Rattle.campaign.specs.Probes.{Probed, stepping_of, failing, NoLook, commenced, one_each, InRisingOrder, AllProbed}
 use Rattle.campaign.proofs.Law.{cut, Commencing, commence_accepted, commence_gives, sound, kept}
@@ -28,16 +29,16 @@ pub record Surveying (f₀ : Facts) (size : ℤ) (i : ℕ) (f : Facts) (c : Camp
 next_each : (f : Facts) (size : ℤ) (i : ℕ) → one_each f size (i + 1) ≡ cond (f.inverter (i + 1)) ((i + 1, size) ∷ one_each f size i) (one_each f size i)
 next_each f size i = let e : i + 1 ≡ suc i = omega arith in rw e refl
 
-pub survey_starts : (f₀ : Facts) (size : ℤ) (c : Campaign) → c ≡ opening_of f₀ → Surveying f₀ size 0 f₀ c
+survey_starts : (f₀ : Facts) (size : ℤ) (c : Campaign) → c ≡ opening_of f₀ → Surveying f₀ size 0 f₀ c
 survey_starts f₀ size c is =
     subst (λ d. Surveying f₀ size 0 f₀ d) (sym is)
     (record { calls = []; history = opened; rising = refl; free = refl; each = λ m some le there. absurd (omega arith); none = lowest_none _ })
 
-pub survey_at : {f₀ : Facts} {size : ℤ} {i : ℕ} {f f' : Facts} {c c' : Campaign} → f' ≡ f → c' ≡ c → Surveying f₀ size i f c → Surveying f₀ size i f' c'
+survey_at : {f₀ : Facts} {size : ℤ} {i : ℕ} {f f' : Facts} {c c' : Campaign} → f' ≡ f → c' ≡ c → Surveying f₀ size i f c → Surveying f₀ size i f' c'
 survey_at {f₀} {size} {i} {f} {f'} {c} {c'} ef ec h = subst (λ g. Surveying f₀ size i g c') (sym ef) (subst (λ d. Surveying f₀ size i f d) (sym ec) h)
 
 -- nothing is outstanding, so the facts are those of the opening
-pub survey_facts : (f₀ : Facts) → Bounded f₀ → (size : ℤ) (i : ℕ) (f : Facts) (c : Campaign) → Surveying f₀ size i f c → f ≡ f₀
+survey_facts : (f₀ : Facts) → Bounded f₀ → (size : ℤ) (i : ℕ) (f : Facts) (c : Campaign) → Surveying f₀ size i f c → f ≡ f₀
 survey_facts f₀ bounds size i f c h =
     (sound NoLook f₀ bounds h.calls f c h.history).facts ∙ ap (λ o. with_settings f₀ (settings_with f₀.setting o)) h.free
 
@@ -45,7 +46,7 @@ survey_kept : (f₀ : Facts) → Bounded f₀ → (size : ℤ) (i : ℕ) (f : Fa
 survey_kept f₀ bounds size i f c h = kept NoLook f₀ bounds h.calls f c h.history
 
 -- a bus without an inverter
-pub survey_passes : (f₀ : Facts) → Bounded f₀ → (size : ℤ) (i : ℕ) (f : Facts) (c : Campaign) → f.inverter (i + 1) ≡ false → Surveying f₀ size i f c → Surveying f₀ size (i + 1) f c
+survey_passes : (f₀ : Facts) → Bounded f₀ → (size : ℤ) (i : ℕ) (f : Facts) (c : Campaign) → f.inverter (i + 1) ≡ false → Surveying f₀ size i f c → Surveying f₀ size (i + 1) f c
 survey_passes f₀ bounds size i f c none h =
     let none₀ : f₀.inverter (i + 1) ≡ false = ap (λ (g : Facts). g.inverter (i + 1)) (sym (survey_facts f₀ bounds size i f c h)) ∙ none in
     record {
@@ -67,7 +68,7 @@ stepping_ok f c m size ok =
 inverter_there : (f : Facts) (m : ℕ) (size : ℤ) → Ok tt ≡ command_of f m size → f.inverter m ≡ true
 inverter_there f m size h = not-false (f.inverter m) (cut (not (f.inverter m)) (NoInverter m) _ tt h).0
 
-pub survey_steps : (f₀ : Facts) → Bounded f₀ → (size : ℤ) (i : ℕ) (f : Facts) (c : Campaign) (f' : Facts) (c' : Campaign) → Probed f c (i + 1) size f' c' → Surveying f₀ size i f c → Surveying f₀ size (i + 1) f' c'
+survey_steps : (f₀ : Facts) → Bounded f₀ → (size : ℤ) (i : ℕ) (f : Facts) (c : Campaign) (f' : Facts) (c' : Campaign) → Probed f c (i + 1) size f' c' → Surveying f₀ size i f c → Surveying f₀ size (i + 1) f' c'
 survey_steps f₀ bounds size i f c f' c' p h =
     let gives = commence_gives f c (i + 1) size p.fresh p.commences.answers in
     let ok = commence_accepted f c (i + 1) size p.fresh p.commences.answers in
@@ -79,7 +80,7 @@ survey_steps f₀ bounds size i f c f' c' p h =
       rising = ap (λ steps. (i + 1, size) ∷ steps) h.rising ∙ sym (next_each f₀ size i ∙ cond-true (f₀.inverter (i + 1)) _ _ there);
       free = refl;
       each = λ m some le there. elim (cases_eq m (i + 1)) [
-        | inl at ↦ or_left _ _ (eq-eqb _ _ (ap (λ (x : FreshStep). x.inverter) gives ∙ sym at))
+        | inl at ↦ or_left _ _ (eq-eqb _ _ (ap (λ (x : Step Fresh). x.inverter) gives ∙ sym at))
         | inr other ↦ or_right (eqb p.fresh.inverter m) _ (h.each m some (omega arith) there)
       ];
       none = lowest_more i (failing f₀ size) h.none (and_right _ _ good);
@@ -87,21 +88,21 @@ survey_steps f₀ bounds size i f c f' c' p h =
 
 -- an inverter that the source refuses to step
 
-stepping_err : (a : Result (List ℤ) SourceFault) (b : Result (Unit {0}) SourceFault) (x : FreshStep) (m : ℕ) (refusal : CampaignRefusal) → Err refusal ≡ naming m (from_source (and_then a (λ _. and_then b (λ _. Ok x)))) → (Err refusal ≡ naming m (from_source (and_then a (λ _. b)))) × (is_err (and_then a (λ _. b)) ≡ true)
+stepping_err : (a : Result (List ℤ) SourceFault) (b : Result (Unit {0}) SourceFault) (x : Step Fresh) (m : ℕ) (refusal : CampaignRefusal) → Err refusal ≡ naming m (from_source (and_then a (λ _. and_then b (λ _. Ok x)))) → (Err refusal ≡ naming m (from_source (and_then a (λ _. b)))) × (is_err (and_then a (λ _. b)) ≡ true)
 stepping_err (Ok y) (Ok u) x m refusal h = absurd (let z : ◌≡◌ {A = ℕ} 0 1 = cc in omega arith)
 stepping_err (Ok y) (Err e) x m refusal h = (ap Err (let is : refusal ≡ _ = cc in is), refl)
 stepping_err (Err e) b x m refusal h = (ap Err (let is : refusal ≡ _ = cc in is), refl)
 
-past_campaign : (f : Facts) (c : Campaign) (m : ℕ) (size : ℤ) → same f c ≡ true → c.outstanding ≡ None → commence_of f c m size ≡ from_source (and_then (read_all_of f) (λ _. and_then (command_of f m size) (λ _. Ok (record { inverter = m; size = size }))))
+past_campaign : (f : Facts) (c : Campaign) (m : ℕ) (size : ℤ) → same f c ≡ true → c.outstanding ≡ None → commence_of f c m size ≡ from_source (and_then (read_all_of f) (λ _. and_then (command_of f m size) (λ _. Ok (step_of m size))))
 past_campaign f c m size match free =
-    ap (λ t. cond (not t) (Err (NotThisCampaign m)) (cond (is_some c.outstanding) (Err (StepOutstanding (inverter_of c.outstanding))) (from_source (and_then (read_all_of f) (λ _. and_then (command_of f m size) (λ _. Ok (record { inverter = m; size = size }))))))) match ∙
-    ap (λ o. cond (is_some o) (Err (StepOutstanding (inverter_of o))) (from_source (and_then (read_all_of f) (λ _. and_then (command_of f m size) (λ _. Ok (record { inverter = m; size = size })))))) free
+    ap (λ t. cond (not t) (Err (NotThisCampaign m)) (cond (is_some c.outstanding) (Err (StepOutstanding (inverter_of c.outstanding))) (from_source (and_then (read_all_of f) (λ _. and_then (command_of f m size) (λ _. Ok (step_of m size))))))) match ∙
+    ap (λ o. cond (is_some o) (Err (StepOutstanding (inverter_of o))) (from_source (and_then (read_all_of f) (λ _. and_then (command_of f m size) (λ _. Ok (step_of m size)))))) free
 
-pub survey_stops : (f₀ : Facts) → Bounded f₀ → (size : ℤ) (i : ℕ) (f : Facts) (c : Campaign) (refusal : CampaignRefusal) (f' : Facts) (c' : Campaign) → i < f₀.buses → f.inverter (i + 1) ≡ true → Commences f c (i + 1) size (Err refusal) f' c' → Surveying f₀ size i f c → (f' ≡ f₀) × AllProbed f₀ size (Err refusal)
+survey_stops : (f₀ : Facts) → Bounded f₀ → (size : ℤ) (i : ℕ) (f : Facts) (c : Campaign) (refusal : CampaignRefusal) (f' : Facts) (c' : Campaign) → i < f₀.buses → f.inverter (i + 1) ≡ true → Commences f c (i + 1) size (Err refusal) f' c' → Surveying f₀ size i f c → (f' ≡ f₀) × AllProbed f₀ size (Err refusal)
 survey_stops f₀ bounds size i f c refusal f' c' lt there r h =
     let is = survey_facts f₀ bounds size i f c h in
     let all = survey_kept f₀ bounds size i f c h in
-    let told = stepping_err (read_all_of f) (command_of f (i + 1) size) (record { inverter = i + 1; size = size }) (i + 1) refusal
+    let told = stepping_err (read_all_of f) (command_of f (i + 1) size) (step_of (i + 1) size) (i + 1) refusal
     (r.answers ∙ ap (naming (i + 1)) (past_campaign f c (i + 1) size all.same_source (all.remembers ∙ h.free))) in
     let fails : failing f₀ size (i + 1) ≡ true = ap (λ g. failing g size (i + 1)) (sym is) ∙ and_from _ _ there told.1 in (
       r.source ∙ is,
@@ -112,16 +113,37 @@ survey_stops f₀ bounds size i f c refusal f' c' lt there r h =
       ),
     )
 
+-- every inverter below a bus was probed
+pub record Below (f₀ : Facts) (size : ℤ) (bus : ℕ) (f : Facts) (c : Campaign) : Type 0 where
+  pub last : ℕ
+  pub next : bus ≡ last + 1
+  pub surveying : Surveying f₀ size last f c
+
+pub below_starts : (f₀ : Facts) (size : ℤ) (c : Campaign) → c ≡ opening_of f₀ → Below f₀ size 1 f₀ c
+below_starts f₀ size c is = record { last = 0; next = refl; surveying = survey_starts f₀ size c is }
+
+pub below_passes : (f₀ : Facts) → Bounded f₀ → (size : ℤ) (bus : ℕ) (f f' : Facts) (c c' : Campaign) → f' ≡ f → c' ≡ c → f.inverter bus ≡ false → Below f₀ size bus f c → Below f₀ size (bus + 1) f' c'
+below_passes f₀ bounds size bus f f' c c' ef ec none h =
+    record { last = h.last + 1; next = omega (arith, h.next); surveying = survey_at ef ec (survey_passes f₀ bounds size h.last f c (ap f.inverter (sym h.next) ∙ none) h.surveying) }
+
+pub below_steps : (f₀ : Facts) → Bounded f₀ → (size : ℤ) (bus : ℕ) (f f' f'' : Facts) (c c' c'' : Campaign) → f'' ≡ f' → c'' ≡ c' → Probed f c bus size f' c' → Below f₀ size bus f c → Below f₀ size (bus + 1) f'' c''
+below_steps f₀ bounds size bus f f' f'' c c' c'' ef ec p h =
+    record { last = h.last + 1; next = omega (arith, h.next); surveying = survey_at ef ec (survey_steps f₀ bounds size h.last f c f' c' (subst (λ k. Probed f c k size f' c') h.next p) h.surveying) }
+
+pub below_stops : (f₀ : Facts) → Bounded f₀ → (size : ℤ) (bus : ℕ) (f : Facts) (c : Campaign) (refusal : CampaignRefusal) (f' : Facts) (c' : Campaign) → bus ≤ f₀.buses → f.inverter bus ≡ true → Commences f c bus size (Err refusal) f' c' → Below f₀ size bus f c → (f' ≡ f₀) × AllProbed f₀ size (Err refusal)
+below_stops f₀ bounds size bus f c refusal f' c' le there r h =
+    survey_stops f₀ bounds size h.last f c refusal f' c' (omega (arith, h.next)) (ap f.inverter (sym h.next) ∙ there) (subst (λ k. Commences f c k size (Err refusal) f' c') h.next r) h.surveying
+
 -- all of them
 
 survey_whole : {f₀ : Facts} {size : ℤ} {i : ℕ} {f : Facts} {c : Campaign} (h : Surveying f₀ size i f c) → Bounded f₀ → History NoLook f₀ (opening_of f₀) h.calls f₀ c
 survey_whole {f₀} {size} {i} {f} {c} h bounds = subst (λ g. History NoLook f₀ (opening_of f₀) h.calls g c) (survey_facts f₀ bounds size i f c h) h.history
 
-pub survey_rises : (f₀ : Facts) → Bounded f₀ → (size : ℤ) (i : ℕ) (f : Facts) (c : Campaign) → i ≡ f₀.buses → Surveying f₀ size i f c → InRisingOrder f₀ size c
+survey_rises : (f₀ : Facts) → Bounded f₀ → (size : ℤ) (i : ℕ) (f : Facts) (c : Campaign) → i ≡ f₀.buses → Surveying f₀ size i f c → InRisingOrder f₀ size c
 survey_rises f₀ bounds size i f c last h =
     record { calls = h.calls; history = survey_whole h bounds; rising = h.rising ∙ ap (one_each f₀ size) last }
 
-pub survey_ends : (f₀ : Facts) → Bounded f₀ → (size : ℤ) (i : ℕ) (f : Facts) (c : Campaign) → i ≡ f₀.buses → Surveying f₀ size i f c → (f ≡ f₀) × AllProbed f₀ size (Ok c)
+survey_ends : (f₀ : Facts) → Bounded f₀ → (size : ℤ) (i : ℕ) (f : Facts) (c : Campaign) → i ≡ f₀.buses → Surveying f₀ size i f c → (f ≡ f₀) × AllProbed f₀ size (Ok c)
 survey_ends f₀ bounds size i f c last h =
     let is = survey_facts f₀ bounds size i f c h in
     let all = survey_kept f₀ bounds size i f c h in (
@@ -145,3 +167,9 @@ survey_ends f₀ bounds size i f c last h =
         let placed = and_parts (leb 1 m) (leb m f₀.buses) (bounds.placed m there) in
         let high = leb-true _ _ placed.1 in
         h.each m (leb-true _ _ placed.0) (omega (arith, high, last)) there
+
+pub below_ends : (f₀ : Facts) → Bounded f₀ → (size : ℤ) (bus : ℕ) (f : Facts) (c : Campaign) → bus ≡ f₀.buses → Below f₀ size (bus + 1) f c → (f ≡ f₀) × AllProbed f₀ size (Ok c) × InRisingOrder f₀ size c
+below_ends f₀ bounds size bus f c last h =
+    let is : h.last ≡ f₀.buses = omega (arith, h.next) in
+    let ends = survey_ends f₀ bounds size h.last f c is h.surveying in
+    (ends.0, ends.1, survey_rises f₀ bounds size h.last f c is h.surveying)

@@ -10,16 +10,17 @@ use Rattle.probing.proofs.Probes.{command_accepted}
 use Rattle.campaign.specs.declared.fault.CampaignFault.TheVariants.{NotThisCampaign}
 use Rattle.campaign.specs.declared.fault.CampaignRefusal.{CampaignRefusal}
 use Rattle.campaign.specs.declared.state.Campaign.{Campaign}
-use Rattle.campaign.specs.declared.steps.FreshStep.{FreshStep}
-use Rattle.campaign.specs.declared.steps.CollectedStep.{CollectedStep}
+use Rattle.campaign.specs.declared.steps.Step.{Step}
+use Rattle.campaign.specs.declared.steps.Fresh.{Fresh}
+use Rattle.campaign.specs.declared.steps.Collected.{Collected}
 use Rattle.campaign.specs.Columns.{same, is_step, is_outstanding}
-use Rattle.campaign.specs.Relations.{from_source, naming, handing_back, commenced, Commences, quotients, evenly, divided_of, change_of, collect_of, as_collected, Collects}
+use Rattle.campaign.specs.Relations.{step_of, from_source, naming, handing_back, commenced, Commences, quotients, evenly, divided_of, change_of, collect_of, as_collected, Collects}
 use Rattle.campaign.proofs.Lists.{same_has}
 use Rattle.campaign.proofs.Quotients.{divided_back}
 use Rattle.campaign.proofs.Law.{Commencing, commence_accepted, commence_gives, Pending, change_is, nonzero}
 
 -- what an accepted commencing leaves
-pub record Follows (x : FreshStep) (f' : Facts) (c' : Campaign) : Type 0 where
+pub record Follows (x : Step Fresh) (f' : Facts) (c' : Campaign) : Type 0 where
   pub match : same f' c' ≡ true
   pub out : is_outstanding c' x.inverter x.size ≡ true
   pub responses : List ℤ
@@ -41,32 +42,32 @@ divides_all f bounds c m size p match out readings h =
     ap (λ o. and_then (from_source (heard o (per_bus f'.buses (voltage f')))) (λ _. divided_of f'.buses (change_of f' c) size)) (read_heard f readings h).0 ∙
     ap (λ o. evenly o (quotients f'.buses (change_of f' c) size)) (even_all f bounds c m size p)
 
-follows₀ : (f : Facts) → Bounded f → (c : Campaign) (m : ℕ) (size : ℤ) → Commencing f c m size → Follows (record { inverter = m; size = size }) (with_setting f m size) (commenced f c m size)
+follows₀ : (f : Facts) → Bounded f → (c : Campaign) (m : ℕ) (size : ℤ) → Commencing f c m size → Follows (step_of m size) (with_setting f m size) (commenced f c m size)
 follows₀ f bounds c m size ok =
     let allowed = command_accepted f m size ok.command in
     let p : Pending f (commenced f c m size) m size = record { there = allowed.there; still = allowed.still; some = nonzero size allowed.small; before = refl } in
     let out : is_outstanding (commenced f c m size) m size ≡ true = and_from _ _ (self_step m size) (same_has f bounds c ok.match m allowed.there) in
     record { match = ok.match; out = out; responses = _; divides = divides_all f bounds (commenced f c m size) m size p ok.match out ok.readings ok.read }
 
-pub follows : (f : Facts) → Bounded f → (c : Campaign) (m : ℕ) (size : ℤ) (x : FreshStep) (f' : Facts) (c' : Campaign) → Commences f c m size (Ok x) f' c' → Follows x f' c'
+pub follows : (f : Facts) → Bounded f → (c : Campaign) (m : ℕ) (size : ℤ) (x : Step Fresh) (f' : Facts) (c' : Campaign) → Commences f c m size (Ok x) f' c' → Follows x f' c'
 follows f bounds c m size x f' c' r =
     let ok = commence_accepted f c m size x r.answers in
     let h = follows₀ f bounds c m size ok in
-    let step : FreshStep = record { inverter = m; size = size } in
+    let step : Step Fresh = step_of m size in
     subst (λ y. Follows y f' c') (sym (commence_gives f c m size x r.answers))
     (subst (λ g. Follows step g c') (sym r.source) (subst (λ d. Follows step (with_setting f m size) d) (sym r.campaign) h))
 
 -- so no collection is refused there
-pub never_refused : (x : FreshStep) (f : Facts) (c : Campaign) (e : FreshStep × CampaignRefusal) (f' : Facts) (c' : Campaign) → Follows x f c → Collects f c x (Err e) f' c' → ⊥
+pub never_refused : (x : Step Fresh) (f : Facts) (c : Campaign) (e : Step Fresh × CampaignRefusal) (f' : Facts) (c' : Campaign) → Follows x f c → Collects f c x (Err e) f' c' → ⊥
 never_refused x f c e f' c' h r =
     let clash = r.answers ∙ ap (λ d. handing_back x (naming x.inverter (as_collected x d))) h.divides in
     let z : ◌≡◌ {A = ℕ} 0 1 = cc in omega arith
 
 -- and the step is still outstanding behind one
-pub still_outstanding : (x : FreshStep) (f : Facts) (c : Campaign) (y : CollectedStep) (f' : Facts) (c' : Campaign) → Follows x f c → Collects f c x (Ok y) f' c' → (same f c' ≡ true) × (is_outstanding c' y.inverter y.size ≡ true)
+pub still_outstanding : (x : Step Fresh) (f : Facts) (c : Campaign) (y : Step Collected) (f' : Facts) (c' : Campaign) → Follows x f c → Collects f c x (Ok y) f' c' → (same f c' ≡ true) × (is_outstanding c' y.inverter y.size ≡ true)
 still_outstanding x f c y f' c' h r =
     let clash = r.answers ∙ ap (λ d. handing_back x (naming x.inverter (as_collected x d))) h.divides in
-    let is : y ≡ record { inverter = x.inverter; size = x.size } = cc in (
+    let is : y ≡ step_of x.inverter x.size = cc in (
       ap (same f) r.campaign ∙ h.match,
-      ap (λ (z : CollectedStep). is_outstanding c' z.inverter z.size) is ∙ ap (λ d. is_outstanding d x.inverter x.size) r.campaign ∙ h.out,
+      ap (λ (z : Step Collected). is_outstanding c' z.inverter z.size) is ∙ ap (λ d. is_outstanding d x.inverter x.size) r.campaign ∙ h.out,
     )

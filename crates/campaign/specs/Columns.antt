@@ -1,8 +1,7 @@
 -- What a campaign holds: its buses and inverters, its outstanding step, its columns.
-use Rattle.std.specs.Prelude.{ℕ, zero, suc, ◌-◌, Bool, true, false, cond, not, ◌&&◌, [], ℤ, pos, ◌-ℤ◌, Some, None, Option, ◌==◌, nat_le, slice_index_or, unsigned_abs}
+use Rattle.std.specs.Prelude.{ℕ, zero, suc, ◌-◌, Bool, true, false, cond, not, ◌&&◌, List, ℤ, pos, ◌-ℤ◌, is_some, Some, None, Option, ◌==◌, nat_le, slice_index_or, unsigned_abs}
 use Rattle.probing.specs.Facts.{Facts}
 use Rattle.campaign.specs.declared.state.Campaign.{Campaign}
-use Rattle.campaign.specs.declared.state.Column.{Column}
 use Rattle.campaign.specs.declared.state.Outstanding.{Outstanding}
 
 -- 1 to 64
@@ -36,20 +35,25 @@ abbrev pub is_outstanding : Campaign → ℕ → ℤ → Bool
 is_outstanding c m size = is_step c.outstanding m size && has_inverter c m
 
 -- a column that was not collected
-abbrev pub blank : Column
-blank = record { present = false; responses = [] }
+abbrev pub blank : Option (List ℤ)
+blank = None
 
--- the column of inverter m
-abbrev pub column_of : Campaign → ℕ → Column
+-- the column of inverter m, if it was collected
+abbrev pub column_of : Campaign → ℕ → Option (List ℤ)
 column_of c m = slice_index_or c.columns (m - 1) blank
 
 -- is the column of inverter m present?
 abbrev pub present : Campaign → ℕ → Bool
-present c m = numbered m && (column_of c m).present
+present c m = numbered m && is_some (column_of c m)
+
+-- the response of bus n in a column, and 0 in one that was not collected
+abbrev pub entry_in : Option (List ℤ) → ℕ → ℤ
+entry_in None n = pos 0
+entry_in (Some responses) n = slice_index_or responses (n - 1) (pos 0)
 
 -- the response of bus n in the column of inverter m
 abbrev pub entry : Campaign → ℕ → ℕ → ℤ
-entry c n m = slice_index_or (column_of c m).responses (n - 1) (pos 0)
+entry c n m = entry_in (column_of c m) n
 
 -- the same, if that column is present
 abbrev pub response_in : Campaign → ℕ → ℕ → Option ℤ

@@ -5,8 +5,9 @@ use Rattle.probing.specs.Facts.{Facts, metered, replaced, with_settings}
 use Rattle.campaign.specs.declared.fault.CampaignRefusal.{CampaignRefusal}
 use Rattle.campaign.specs.declared.state.Campaign.{Campaign}
 use Rattle.campaign.specs.declared.state.Outstanding.{Outstanding}
-use Rattle.campaign.specs.declared.steps.FreshStep.{FreshStep}
-use Rattle.campaign.specs.declared.steps.CollectedStep.{CollectedStep}
+use Rattle.campaign.specs.declared.steps.Step.{Step}
+use Rattle.campaign.specs.declared.steps.Fresh.{Fresh}
+use Rattle.campaign.specs.declared.steps.Collected.{Collected}
 use Rattle.campaign.specs.Columns.{same, present, entry}
 use Rattle.campaign.specs.Relations.{Commences, Collects, Withdraws}
 
@@ -17,10 +18,10 @@ pub data Crew : Type 0 where
 
 -- a call: what it named and what it answered. A look is any call that reads the campaign and changes nothing
 pub data Call (Look : Type 0) : Type 0 where
-  commencing : ℕ → ℤ → Result FreshStep CampaignRefusal → Call Look
-  collecting : FreshStep → Result CollectedStep (FreshStep × CampaignRefusal) → Call Look
-  withdrawing : CollectedStep → Result (Unit {0}) (CollectedStep × CampaignRefusal) → Call Look
-  withdrawing_fresh : FreshStep → Result (Unit {0}) (FreshStep × CampaignRefusal) → Call Look
+  commencing : ℕ → ℤ → Result (Step Fresh) CampaignRefusal → Call Look
+  collecting : Step Fresh → Result (Step Collected) (Step Fresh × CampaignRefusal) → Call Look
+  withdrawing : Step Collected → Result (Unit {0}) (Step Collected × CampaignRefusal) → Call Look
+  withdrawing_fresh : Step Fresh → Result (Unit {0}) (Step Fresh × CampaignRefusal) → Call Look
   looking : Look → Call Look
 
 -- the calls so far, the latest first

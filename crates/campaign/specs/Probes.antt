@@ -5,8 +5,9 @@ use Rattle.probing.specs.Facts.{Facts, metered}
 use Rattle.probing.specs.Answers.{and_then, lowest, read_all_of, command_of}
 use Rattle.campaign.specs.declared.fault.CampaignRefusal.{CampaignRefusal}
 use Rattle.campaign.specs.declared.state.Campaign.{Campaign}
-use Rattle.campaign.specs.declared.steps.FreshStep.{FreshStep}
-use Rattle.campaign.specs.declared.steps.CollectedStep.{CollectedStep}
+use Rattle.campaign.specs.declared.steps.Step.{Step}
+use Rattle.campaign.specs.declared.steps.Fresh.{Fresh}
+use Rattle.campaign.specs.declared.steps.Collected.{Collected}
 use Rattle.campaign.specs.Columns.{present, entry}
 use Rattle.campaign.specs.Relations.{opening_of, from_source, naming, Commences, Collects, Withdraws}
 use Rattle.campaign.specs.History.{commencing, collecting, withdrawing, withdrawing_fresh, looking, Calls, outstanding, collected_for, History}
@@ -16,8 +17,8 @@ pub record Probed (f : Facts) (c : Campaign) (m : ℕ) (size : ℤ) (f' : Facts)
   pub stepped : Facts
   pub commenced : Campaign
   pub collected : Campaign
-  pub fresh : FreshStep
-  pub step : CollectedStep
+  pub fresh : Step Fresh
+  pub step : Step Collected
   pub commences : Commences f c m size (Ok fresh) stepped commenced
   pub collects : Collects stepped commenced fresh (Ok step) stepped collected
   pub withdraws : Withdraws stepped collected step step.inverter step.size (Ok tt) f' c'

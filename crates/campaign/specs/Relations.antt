@@ -1,6 +1,6 @@
 -- What each call on a campaign answers, and what it leaves: one relation for each call, between the facts of the source
 -- and the campaign before, what was named, the answer, and facts and campaign after.
-use Rattle.std.specs.Prelude.{◌≡◌, ℕ, ◌-◌, Bool, true, false, not, List, [], ◌∷◌, map, replicate, ℤ, pos, ◌-ℤ◌, is_some, Some, None, Ok, Err, Option, Result, slice_index_or, slice_set}
+use Rattle.std.specs.Prelude.{◌≡◌, ℕ, ◌-◌, Bool, not, List, [], ◌∷◌, map, replicate, ℤ, pos, ◌-ℤ◌, is_some, Some, None, Ok, Err, Option, Result, slice_index_or, slice_set}
 use Rattle.std.specs.List.{range_with_len}
 use Rattle.units.specs.Quotients.{response_of}
 use Rattle.probing.specs.declared.fault.SourceFault.{SourceFault}
@@ -10,10 +10,10 @@ use Rattle.campaign.specs.declared.fault.CampaignFault.{CampaignFault}
 use Rattle.campaign.specs.declared.fault.CampaignFault.TheVariants.{Source, StepOutstanding, NotThisCampaign, NotMultiple}
 use Rattle.campaign.specs.declared.fault.CampaignRefusal.{CampaignRefusal}
 use Rattle.campaign.specs.declared.state.Campaign.{Campaign}
-use Rattle.campaign.specs.declared.state.Column.{Column}
 use Rattle.campaign.specs.declared.state.Outstanding.{Outstanding}
-use Rattle.campaign.specs.declared.steps.FreshStep.{FreshStep}
-use Rattle.campaign.specs.declared.steps.CollectedStep.{CollectedStep}
+use Rattle.campaign.specs.declared.steps.Step.{Step}
+use Rattle.campaign.specs.declared.steps.Fresh.{Fresh}
+use Rattle.campaign.specs.declared.steps.Collected.{Collected}
 use Rattle.campaign.specs.Columns.{same, is_outstanding}
 
 -- Opening
@@ -27,8 +27,8 @@ unfoldable pub zeros : List ℤ
 zeros = replicate 64 (pos 0)
 
 -- 64 columns, none of them present
-unfoldable pub no_columns : List Column
-no_columns = replicate 64 (record { present = false; responses = zeros })
+unfoldable pub no_columns : List (Option (List ℤ))
+no_columns = replicate 64 None
 
 -- the source's buses and inverters, no column, no outstanding step
 abbrev pub opening_of : Facts → Campaign
@@ -47,9 +47,15 @@ naming m (Ok x) = Ok x
 naming m (Err fault) = Err (record { fault = fault; inverter = m })
 
 -- a refused call hands the step back as it was
-abbrev pub handing_back : {Step T : Type 0} → Step → Result T CampaignRefusal → Result T (Step × CampaignRefusal)
+abbrev pub handing_back : {S T : Type 0} → S → Result T CampaignRefusal → Result T (S × CampaignRefusal)
 handing_back step (Ok x) = Ok x
 handing_back step (Err refusal) = Err (step, refusal)
+
+-- Steps
+
+-- the step of inverter m by a size, in either phase
+abbrev pub step_of : {P : Type 0} → ℕ → ℤ → Step P
+step_of m size = record { inverter = m; size = size; phase = record {} }
 
 -- Commencing
 
@@ -59,10 +65,10 @@ inverter_of None = 0
 inverter_of (Some step) = step.inverter
 
 -- another source; a step outstanding; then what the source refuses: a mute meter, no inverter, a bad step, off schedule
-abbrev pub commence_of : Facts → Campaign → ℕ → ℤ → Result FreshStep CampaignFault
+abbrev pub commence_of : Facts → Campaign → ℕ → ℤ → Result (Step Fresh) CampaignFault
 commence_of f c m size =
     first_refusal ((not (same f c), NotThisCampaign m) ∷ (is_some c.outstanding, StepOutstanding (inverter_of c.outstanding)) ∷ [])
-    (from_source (and_then (read_all_of f) (λ _. and_then (command_of f m size) (λ _. Ok (record { inverter = m; size = size })))))
+    (from_source (and_then (read_all_of f) (λ _. and_then (command_of f m size) (λ _. Ok (step_of m size)))))
 
 -- the step is outstanding, and what was read before it is kept
 abbrev pub commenced : Facts → Campaign → ℕ → ℤ → Campaign
@@ -70,7 +76,7 @@ commenced f c m size =
     record { buses = c.buses; inverters = c.inverters; outstanding = Some (record { inverter = m; size = size }); before = per_bus f.buses (voltage f); columns = c.columns }
 
 -- commencing a step of inverter m
-pub record Commences (f : Facts) (c : Campaign) (m : ℕ) (size : ℤ) (answer : Result FreshStep CampaignRefusal) (f' : Facts) (c' : Campaign) : Type 0 where
+pub record Commences (f : Facts) (c : Campaign) (m : ℕ) (size : ℤ) (answer : Result (Step Fresh) CampaignRefusal) (f' : Facts) (c' : Campaign) : Type 0 where
   pub answers : answer ≡ naming m (commence_of f c m size)
   pub source : f' ≡ left answer (with_setting f m size) f
   pub campaign : c' ≡ left answer (commenced f c m size) c
@@ -112,15 +118,15 @@ collect_of f c m size =
 -- one column is replaced, and every other stays
 abbrev pub collected : Campaign → ℕ → List ℤ → Campaign
 collected c m responses =
-    record { buses = c.buses; inverters = c.inverters; outstanding = c.outstanding; before = c.before; columns = slice_set c.columns (m - 1) (record { present = true; responses = responses }) }
+    record { buses = c.buses; inverters = c.inverters; outstanding = c.outstanding; before = c.before; columns = slice_set c.columns (m - 1) (Some responses) }
 
 -- the step, as one that was collected
-abbrev pub as_collected : FreshStep → Result (List ℤ) CampaignFault → Result CollectedStep CampaignFault
-as_collected step (Ok _) = Ok (record { inverter = step.inverter; size = step.size })
+abbrev pub as_collected : Step Fresh → Result (List ℤ) CampaignFault → Result (Step Collected) CampaignFault
+as_collected step (Ok _) = Ok (step_of step.inverter step.size)
 as_collected step (Err fault) = Err fault
 
 -- collecting a fresh step
-pub record Collects (f : Facts) (c : Campaign) (step : FreshStep) (answer : Result CollectedStep (FreshStep × CampaignRefusal)) (f' : Facts) (c' : Campaign) : Type 0 where
+pub record Collects (f : Facts) (c : Campaign) (step : Step Fresh) (answer : Result (Step Collected) (Step Fresh × CampaignRefusal)) (f' : Facts) (c' : Campaign) : Type 0 where
   pub answers : answer ≡ handing_back step (naming step.inverter (as_collected step (collect_of f c step.inverter step.size)))
   pub source : f' ≡ f
   pub campaign : c' ≡ left answer (collected c step.inverter (quotients f.buses (change_of f c) step.size)) c
@@ -137,7 +143,7 @@ abbrev pub ended : Campaign → Campaign
 ended c = record { buses = c.buses; inverters = c.inverters; outstanding = None; before = c.before; columns = c.columns }
 
 -- withdrawing a step of either kind, of inverter m
-pub record Withdraws {Step : Type 0} (f : Facts) (c : Campaign) (step : Step) (m : ℕ) (size : ℤ) (answer : Result (Unit {0}) (Step × CampaignRefusal)) (f' : Facts) (c' : Campaign) : Type 0 where
+pub record Withdraws {S : Type 0} (f : Facts) (c : Campaign) (step : S) (m : ℕ) (size : ℤ) (answer : Result (Unit {0}) (S × CampaignRefusal)) (f' : Facts) (c' : Campaign) : Type 0 where
   pub answers : answer ≡ handing_back step (naming m (withdrawal_of f c m size))
   pub source : f' ≡ left answer (with_setting f m (pos 0)) f
   pub campaign : c' ≡ left answer (ended c) c

@@ -3,12 +3,14 @@ ghost use Rattle.units.specs.Quotients.{response_of};
 ghost use Rattle.probing.specs.Facts.{with_setting};
 ghost use Rattle.probing.specs.Answers.{left};
 ghost use Rattle.campaign.specs.Columns.{same, is_outstanding};
-ghost use Rattle.campaign.specs.Relations.{commence_of, commenced, Commences, difference, divided_of, collect_of, collected, Collects, withdrawal_of, ended, Withdraws};
+ghost use Rattle.campaign.specs.Relations.{commence_of, commenced, Commences, difference, divided_of, collect_of, Collects, withdrawal_of, ended, Withdraws};
 
 use crate::fault::{CampaignFault, CampaignRefusal};
+use crate::opening::inverters_of;
 use crate::state::{Campaign, Column, Outstanding};
-use crate::steps::{CollectedStep, FreshStep};
+use crate::steps::{CollectedStep, FreshStep, Step};
 use probing::{Source, read_all};
+use std::marker::PhantomData;
 use units::response;
 
 impl Campaign {
@@ -16,27 +18,18 @@ impl Campaign {
     fn matches<S: Source>(&self, source: &S) -> bool
         ensures { result ≡ same (S.Source.facts source.now) self.now }
     {
-        if source.buses() != self.buses {
-            return false;
-        }
-        for i in 0..64 {
-            if source.has_inverter(i + 1) != self.inverters[i] {
-                return false;
-            }
-        }
-        true
+        source.buses() == self.buses && inverters_of(source) == self.inverters
     }
 
     // Whether a step is the one that is outstanding.
-    fn is_outstanding(&self, inverter: usize, size: i32) -> bool
-        ensures { result ≡ is_outstanding self.now inverter size }
+    fn is_outstanding<P>(&self, step: &Step<P>) -> bool
+        ensures { result ≡ is_outstanding self.now step.now.inverter step.now.size }
     {
-        match self.outstanding {
-            Some(step) => step.inverter == inverter
-                && step.size == size
-                && self.has_inverter(inverter),
-            None => false,
-        }
+        let named = Outstanding {
+            inverter: step.inverter,
+            size: step.size,
+        };
+        self.outstanding == Some(named) && self.has_inverter(step.inverter)
     }
 
     // Commences, and leaves the naming of the inverter to the public call.
@@ -65,9 +58,10 @@ impl Campaign {
             inverter,
             size: step,
         });
-        Ok(FreshStep {
+        Ok(Step {
             inverter,
             size: step,
+            phase: PhantomData,
         })
     }
 
@@ -80,37 +74,21 @@ impl Campaign {
     ) -> Result<FreshStep, CampaignRefusal>
         ensures { Commences (S.Source.facts source.old) self.old inverter step result (S.Source.facts source.new) self.new }
     {
-        match self.begin(source, inverter, step) {
-            Ok(fresh) => Ok(fresh),
-            Err(fault) => Err(CampaignRefusal { fault, inverter }),
-        }
+        self.begin(source, inverter, step)
+            .map_err(|fault| CampaignRefusal { fault, inverter })
     }
 
     // The quotients of the outstanding step.
-    fn divide<S: Source>(
-        &self,
-        source: &S,
-        inverter: usize,
-        size: i32,
-    ) -> Result<[i64; 64], CampaignFault>
-        ensures { result ≡ collect_of (S.Source.facts source.now) self.now inverter size }
+    fn divide<S: Source>(&self, source: &S, step: &FreshStep) -> Result<Column, CampaignFault>
+        ensures { result ≡ collect_of (S.Source.facts source.now) self.now step.now.inverter step.now.size }
     {
-        if !self.matches(source) || !self.is_outstanding(inverter, size) {
-            return Err(CampaignFault::NotThisCampaign { inverter });
+        if !self.matches(source) || !self.is_outstanding(step) {
+            return Err(CampaignFault::NotThisCampaign {
+                inverter: step.inverter,
+            });
         }
         let after = read_all(source)?;
-        quotients(&self.before, &after, self.buses, size)
-    }
-
-    // Replaces one column.
-    fn store(&mut self, inverter: usize, responses: [i64; 64])
-        requires { (1 ≤ inverter) × (inverter ≤ 64) }
-        ensures { self.new ≡ collected self.old inverter responses }
-    {
-        self.columns[inverter - 1] = Column {
-            present: true,
-            responses,
-        };
+        quotients(&self.before, &after, self.buses, step.size)
     }
 
     // Reads every meter again, and takes each change since the commencing, divided by the step, into the column.
@@ -122,74 +100,59 @@ impl Campaign {
         ensures { Collects (S.Source.facts source.now) self.old fresh result (S.Source.facts source.now) self.new }
     {
         let inverter = fresh.inverter;
-        match self.divide(source, inverter, fresh.size) {
+        match self.divide(source, &fresh) {
             Ok(responses) => {
-                self.store(inverter, responses);
-                let FreshStep { inverter, size } = fresh;
-                Ok(CollectedStep { inverter, size })
+                self.columns[inverter - 1] = Some(responses);
+                let Step {
+                    inverter,
+                    size,
+                    phase: _,
+                } = fresh;
+                Ok(Step {
+                    inverter,
+                    size,
+                    phase: PhantomData,
+                })
             }
             Err(fault) => Err((fresh, CampaignRefusal { fault, inverter })),
         }
     }
 
     // Withdraws the outstanding step's inverter.
-    fn end<S: Source>(
-        &mut self,
-        source: &mut S,
-        inverter: usize,
-        size: i32,
-    ) -> Result<(), CampaignFault>
-        ensures answers { result ≡ withdrawal_of (S.Source.facts source.old) self.old inverter size }
-        ensures source { S.Source.facts source.new ≡ left result (with_setting (S.Source.facts source.old) inverter (pos 0)) (S.Source.facts source.old) }
+    fn end<S: Source, P>(&mut self, source: &mut S, step: &Step<P>) -> Result<(), CampaignFault>
+        ensures answers { result ≡ withdrawal_of (S.Source.facts source.old) self.old step.now.inverter step.now.size }
+        ensures source { S.Source.facts source.new ≡ left result (with_setting (S.Source.facts source.old) step.now.inverter (pos 0)) (S.Source.facts source.old) }
         ensures campaign { self.new ≡ left result (ended self.old) self.old }
     {
-        if !self.matches(source) || !self.is_outstanding(inverter, size) {
-            return Err(CampaignFault::NotThisCampaign { inverter });
+        if !self.matches(source) || !self.is_outstanding(step) {
+            return Err(CampaignFault::NotThisCampaign {
+                inverter: step.inverter,
+            });
         }
-        source.withdraw(inverter)?;
+        source.withdraw(step.inverter)?;
         self.outstanding = None;
         Ok(())
     }
 
-    // Ends a step that was collected.
-    pub fn withdraw<S: Source>(
+    // Ends a step, collected or not.
+    pub fn withdraw<S: Source, P>(
         &mut self,
         source: &mut S,
-        step: CollectedStep,
-    ) -> Result<(), (CollectedStep, CampaignRefusal)>
+        step: Step<P>,
+    ) -> Result<(), (Step<P>, CampaignRefusal)>
         ensures { Withdraws (S.Source.facts source.old) self.old step step.inverter step.size result (S.Source.facts source.new) self.new }
     {
         let inverter = step.inverter;
-        match self.end(source, inverter, step.size) {
+        match self.end(source, &step) {
             Ok(()) => {
-                let CollectedStep {
+                let Step {
                     inverter: _,
                     size: _,
+                    phase: _,
                 } = step;
                 Ok(())
             }
             Err(fault) => Err((step, CampaignRefusal { fault, inverter })),
-        }
-    }
-
-    // Ends a step that was not collected.
-    pub fn withdraw_fresh<S: Source>(
-        &mut self,
-        source: &mut S,
-        fresh: FreshStep,
-    ) -> Result<(), (FreshStep, CampaignRefusal)>
-        ensures { Withdraws (S.Source.facts source.old) self.old fresh fresh.inverter fresh.size result (S.Source.facts source.new) self.new }
-    {
-        let inverter = fresh.inverter;
-        match self.end(source, inverter, fresh.size) {
-            Ok(()) => {
-                let FreshStep {
-                    inverter: _,
-                    size: _,
-                } = fresh;
-                Ok(())
-            }
-            Err(fault) => Err((fresh, CampaignRefusal { fault, inverter })),
         }
     }
 }
@@ -207,16 +170,16 @@ fn quotients(
     after: &[i64; 64],
     buses: usize,
     size: i32,
-) -> Result<[i64; 64], CampaignFault>
+) -> Result<Column, CampaignFault>
     requires { buses ≤ 64 }
     ensures { result ≡ divided_of buses (difference before.now after.now) size }
 {
+    // A loop, since the fault is the lowest bus's: try_from_fn does not promise that its error is the first one.
     let mut responses = [0; 64];
     for i in 0..buses {
-        match quotient(before[i], after[i], size) {
-            Some(response) => responses[i] = response,
-            None => return Err(CampaignFault::NotMultiple { bus: i + 1 }),
-        }
+        responses[i] = quotient(before[i], after[i], size).ok_or(CampaignFault::NotMultiple {
+            bus: i + 1,
+        })?;
     }
     Ok(responses)
 }

@@ -14,12 +14,12 @@ pub enum DrawingFault {
     NoFeeder,
 }
 
-impl DrawingFault {
-    // The fault's number, layer and place.
-    pub fn refusal(self) -> Refusal
-        ensures { result ≡ drawing_refusal self }
-    {
-        let (number, place) = match self {
+// The fault's number, layer and place.
+impl From<DrawingFault> for Refusal {
+    ghost from_gives = { λ fault r. r ≡ drawing_refusal fault };
+
+    fn from(fault: DrawingFault) -> Refusal {
+        let (number, place) = match fault {
             DrawingFault::ColumnMissing { inverter } => (16, inverter),
             DrawingFault::InverterMissing { bus } => (17, bus),
             DrawingFault::NoFeeder => (18, 0),

@@ -26,26 +26,22 @@ impl From<SourceFault> for CampaignFault {
     }
 }
 
-impl CampaignFault {
-    pub fn refusal(self) -> Refusal
-        ensures { result ≡ refusal_of self }
-    {
-        match self {
-            CampaignFault::Source { fault } => fault.refusal(),
-            CampaignFault::StepOutstanding { inverter } => refused(11, inverter),
-            CampaignFault::NotThisCampaign { inverter } => refused(14, inverter),
-            CampaignFault::NotMultiple { bus } => refused(15, bus),
-        }
-    }
-}
+// The fault's number, layer and place: a source's keeps its own.
+impl From<CampaignFault> for Refusal {
+    ghost from_gives = { λ fault r. r ≡ refusal_of fault };
 
-fn refused(number: u8, place: usize) -> Refusal
-    ensures { result ≡ record { number = number; layer = Layer.Campaign; place = place } }
-{
-    Refusal {
-        number,
-        layer: Layer::Campaign,
-        place,
+    fn from(fault: CampaignFault) -> Refusal {
+        let (number, place) = match fault {
+            CampaignFault::Source { fault } => return Refusal::from(fault),
+            CampaignFault::StepOutstanding { inverter } => (11, inverter),
+            CampaignFault::NotThisCampaign { inverter } => (14, inverter),
+            CampaignFault::NotMultiple { bus } => (15, bus),
+        };
+        Refusal {
+            number,
+            layer: Layer::Campaign,
+            place,
+        }
     }
 }
 

@@ -14,5 +14,5 @@ pub use drawing_fault::DrawingFault;
 pub use fault::{CampaignFault, CampaignRefusal};
 pub use opening::open_campaign;
 pub use state::{Campaign, Column, Outstanding};
-pub use steps::{CollectedStep, FreshStep};
+pub use steps::{Collected, CollectedStep, Fresh, FreshStep, Step};
 pub use survey::probe_all;

@@ -1,12 +1,8 @@
-ghost use Rattle.std.specs.Prelude.{◌≡◌};
-ghost use Rattle.campaign.specs.Columns.{has_inverter, present, response_in};
+ghost use Rattle.std.specs.Prelude.{◌≡◌, None, option_copied, if◌then◌else◌};
+ghost use Rattle.campaign.specs.Columns.{numbered, has_inverter, column_of, present, response_in};
 
 // What was collected for an inverter: the response of each bus, bus n at n - 1.
-#[derive(Clone, Copy)]
-pub struct Column {
-    pub(crate) present: bool,
-    pub(crate) responses: [i64; 64],
-}
+pub type Column = [i64; 64];
 
 // The step that was handed out and not taken back.
 #[derive(Clone, Copy, PartialEq, Eq, Debug)]
@@ -16,14 +12,17 @@ pub struct Outstanding {
 }
 
 // A campaign on one source: its buses and inverters at the opening, the step that is outstanding, the readings before
-// that step, and a column for each inverter. What is of bus n stands at n - 1.
+// that step, and the columns that were collected. What is of bus n stands at n - 1.
 #[derive(Drop)]
 pub struct Campaign {
+    // How many of the fixed places are used.
     pub(crate) buses: usize,
     pub(crate) inverters: [bool; 64],
     pub(crate) outstanding: Option<Outstanding>,
+    // Not in the outstanding step: by the law of histories that is known by its inverter and size alone, so with the
+    // readings in it each of its clauses would have to take them off again, which is no plainer.
     pub(crate) before: [i64; 64],
-    pub(crate) columns: [Column; 64],
+    pub(crate) columns: [Option<Column>; 64],
 }
 
 impl Campaign {
@@ -38,28 +37,27 @@ impl Campaign {
     pub fn has_inverter(&self, bus: usize) -> bool
         ensures { result ≡ has_inverter self.now bus }
     {
-        bus >= 1 && bus <= 64 && self.inverters[bus - 1]
+        (1..=64).contains(&bus) && self.inverters[bus - 1]
+    }
+
+    // The column of an inverter, if it is present.
+    fn column(&self, inverter: usize) -> Option<&Column>
+        ensures { option_copied result ≡ (if numbered inverter then column_of self.now inverter else None) }
+    {
+        self.columns.get(inverter.checked_sub(1)?)?.as_ref()
     }
 
     // Whether the column of an inverter is present.
     pub fn has_column(&self, inverter: usize) -> bool
         ensures { result ≡ present self.now inverter }
     {
-        inverter >= 1 && inverter <= 64 && self.columns[inverter - 1].present
+        self.column(inverter).is_some()
     }
 
     // The response of a bus to an inverter, if that inverter's column is present.
     pub fn response(&self, bus: usize, inverter: usize) -> Option<i64>
         ensures { result ≡ response_in self.now bus inverter }
     {
-        if inverter < 1 || inverter > 64 || bus < 1 || bus > 64 {
-            return None;
-        }
-        let column = &self.columns[inverter - 1];
-        if column.present {
-            Some(column.responses[bus - 1])
-        } else {
-            None
-        }
+        self.column(inverter)?.get(bus.checked_sub(1)?).copied()
     }
 }

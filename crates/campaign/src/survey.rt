@@ -6,27 +6,18 @@ ghost use Rattle.campaign.specs.Probes.{Probes, InRisingOrder, AllProbed};
 use crate::fault::CampaignRefusal;
 use crate::opening::open_campaign;
 use crate::state::Campaign;
-use crate::steps::{CollectedStep, FreshStep};
+use crate::steps::Step;
 use probing::Source;
 
 impl Campaign {
-    // Withdraws the outstanding step, collected.
-    fn finish<S: Source>(&mut self, source: &mut S, step: CollectedStep)
-        requires { (same (S.Source.facts source.old) self.old ≡ true) × (is_outstanding self.old step.inverter step.size ≡ true) }
+    // Withdraws the outstanding step.
+    fn put_back<S: Source, P>(&mut self, source: &mut S, step: Step<P>)
+        requires own { same (S.Source.facts source.old) self.old ≡ true }
+        requires outstanding { is_outstanding self.old step.inverter step.size ≡ true }
         ensures { Withdraws (S.Source.facts source.old) self.old step step.inverter step.size (Ok tt) (S.Source.facts source.new) self.new }
     {
+        // No unwrap, which could let a step in the error go: the compiler refuses that.
         match self.withdraw(source, step) {
-            Ok(()) => {}
-            Err(_) => unreachable(),
-        }
-    }
-
-    // Withdraws the outstanding step, not collected.
-    fn give_up<S: Source>(&mut self, source: &mut S, step: FreshStep)
-        requires { (same (S.Source.facts source.old) self.old ≡ true) × (is_outstanding self.old step.inverter step.size ≡ true) }
-        ensures { Withdraws (S.Source.facts source.old) self.old step step.inverter step.size (Ok tt) (S.Source.facts source.new) self.new }
-    {
-        match self.withdraw_fresh(source, step) {
             Ok(()) => {}
             Err(_) => unreachable(),
         }
@@ -44,11 +35,11 @@ impl Campaign {
         let fresh = self.commence(source, inverter, step)?;
         match self.collect(source, fresh) {
             Ok(collected) => {
-                self.finish(source, collected);
+                self.put_back(source, collected);
                 Ok(())
             }
             Err((fresh, refusal)) => {
-                self.give_up(source, fresh);
+                self.put_back(source, fresh);
                 Err(refusal)
             }
         }
@@ -63,9 +54,9 @@ pub fn probe_all<S: Source>(source: &mut S, step: i32) -> Result<Campaign, Campa
     ensures rising { IfOk result (λ c. InRisingOrder (S.Source.facts source.old) step c) }
 {
     let mut campaign = open_campaign(source);
-    for i in 0..source.buses() {
-        if source.has_inverter(i + 1) {
-            campaign.probe(source, i + 1, step)?;
+    for bus in 1..=source.buses() {
+        if source.has_inverter(bus) {
+            campaign.probe(source, bus, step)?;
         }
     }
     Ok(campaign)

@@ -4,10 +4,11 @@ use Rattle.probing.specs.Facts.{Facts}
 use Rattle.campaign.specs.declared.fault.CampaignFault.{CampaignFault}
 use Rattle.campaign.specs.declared.fault.CampaignRefusal.{CampaignRefusal}
 use Rattle.campaign.specs.declared.state.Campaign.{Campaign}
-use Rattle.campaign.specs.declared.steps.FreshStep.{FreshStep}
-use Rattle.campaign.specs.declared.steps.CollectedStep.{CollectedStep}
+use Rattle.campaign.specs.declared.steps.Step.{Step}
+use Rattle.campaign.specs.declared.steps.Fresh.{Fresh}
+use Rattle.campaign.specs.declared.steps.Collected.{Collected}
 use Rattle.campaign.specs.Columns.{same, is_outstanding}
-use Rattle.campaign.specs.Relations.{naming, handing_back, as_collected, collect_of, Commences, Collects}
+use Rattle.campaign.specs.Relations.{step_of, naming, handing_back, as_collected, collect_of, Commences, Collects}
 use Rattle.campaign.proofs.Law.{commence_accepted, outstanding_is}
 use Rattle.campaign.proofs.Stepping.{Follows}
 
@@ -16,7 +17,7 @@ abbrev pub Held : Facts → Campaign → ℕ → ℤ → Type 0
 Held f c m size = (same f c ≡ true) × (is_outstanding c m size ≡ true)
 
 -- no second step is handed out
-pub no_second : (f : Facts) (c : Campaign) (m k : ℕ) (size size' : ℤ) (y : FreshStep) (f' : Facts) (c' : Campaign) → Held f c m size → Commences f c k size' (Ok y) f' c' → ⊥
+pub no_second : (f : Facts) (c : Campaign) (m k : ℕ) (size size' : ℤ) (y : Step Fresh) (f' : Facts) (c' : Campaign) → Held f c m size → Commences f c k size' (Ok y) f' c' → ⊥
 no_second f c m k size size' y f' c' h r =
     let ok = commence_accepted f c k size' y r.answers in
     let some = outstanding_is c m size h.1 in
@@ -29,44 +30,44 @@ still_held f c m k size size' e f' c' h r =
     subst (λ g. Held g c' m size) (sym r.source) (subst (λ d. Held f d m size) (sym r.campaign) h)
 
 -- the collected step is of the fresh one's inverter and size
-collected_as : (x : FreshStep) (d : Result (List ℤ) CampaignFault) (y : CollectedStep) → Ok y ≡ handing_back x (naming x.inverter (as_collected x d)) → y ≡ record { inverter = x.inverter; size = x.size }
+collected_as : (x : Step Fresh) (d : Result (List ℤ) CampaignFault) (y : Step Collected) → Ok y ≡ handing_back x (naming x.inverter (as_collected x d)) → y ≡ step_of x.inverter x.size
 collected_as x (Ok _) y h = cc
 collected_as x (Err e) y h = let z : ◌≡◌ {A = ℕ} 0 1 = cc in absurd (let w : ⊥ = omega arith in w)
 
 -- a refused collection hands the same step back
-handed_back : (x : FreshStep) (d : Result (List ℤ) CampaignFault) (e : FreshStep × CampaignRefusal) → Err e ≡ handing_back x (naming x.inverter (as_collected x d)) → e.0 ≡ x
+handed_back : (x : Step Fresh) (d : Result (List ℤ) CampaignFault) (e : Step Fresh × CampaignRefusal) → Err e ≡ handing_back x (naming x.inverter (as_collected x d)) → e.0 ≡ x
 handed_back x (Ok _) e h = let z : ◌≡◌ {A = ℕ} 0 1 = cc in absurd (let w : ⊥ = omega arith in w)
 handed_back x (Err fault) e h =
     let is : e ≡ (x, record { fault = fault; inverter = x.inverter }) = cc in ap (λ p. p.0) is
 
 -- whichever campaign collects it on whichever source, the step stays the outstanding one of its own
-collected_held : (f g : Facts) (c : Campaign) (o : Campaign) (x : FreshStep) (y : CollectedStep) (g' : Facts) (o' : Campaign) → Held f c x.inverter x.size → Collects g o x (Ok y) g' o' → Held f c y.inverter y.size
+collected_held : (f g : Facts) (c : Campaign) (o : Campaign) (x : Step Fresh) (y : Step Collected) (g' : Facts) (o' : Campaign) → Held f c x.inverter x.size → Collects g o x (Ok y) g' o' → Held f c y.inverter y.size
 collected_held f g c o x y g' o' h r =
-    subst (λ (z : CollectedStep). Held f c z.inverter z.size) (sym (collected_as x (collect_of g o x.inverter x.size) y r.answers)) h
+    subst (λ (z : Step Collected). Held f c z.inverter z.size) (sym (collected_as x (collect_of g o x.inverter x.size) y r.answers)) h
 
-refused_held : (f g : Facts) (c : Campaign) (o : Campaign) (x : FreshStep) (e : FreshStep × CampaignRefusal) (g' : Facts) (o' : Campaign) → Held f c x.inverter x.size → Collects g o x (Err e) g' o' → Held f c e.0.inverter e.0.size
+refused_held : (f g : Facts) (c : Campaign) (o : Campaign) (x : Step Fresh) (e : Step Fresh × CampaignRefusal) (g' : Facts) (o' : Campaign) → Held f c x.inverter x.size → Collects g o x (Err e) g' o' → Held f c e.0.inverter e.0.size
 refused_held f g c o x e g' o' h r =
-    subst (λ (z : FreshStep). Held f c z.inverter z.size) (sym (handed_back x (collect_of g o x.inverter x.size) e r.answers)) h
+    subst (λ (z : Step Fresh). Held f c z.inverter z.size) (sym (handed_back x (collect_of g o x.inverter x.size) e r.answers)) h
 
 -- and so where its own campaign collects it
-pub own_collected : (f g : Facts) (c : Campaign) (x : FreshStep) (y : CollectedStep) (g' : Facts) (c' : Campaign) → Held f c x.inverter x.size → Collects g c x (Ok y) g' c' → Held f c' y.inverter y.size
+pub own_collected : (f g : Facts) (c : Campaign) (x : Step Fresh) (y : Step Collected) (g' : Facts) (c' : Campaign) → Held f c x.inverter x.size → Collects g c x (Ok y) g' c' → Held f c' y.inverter y.size
 own_collected f g c x y g' c' h r =
     subst (λ d. Held f d y.inverter y.size) (sym r.campaign) (collected_held f g c c x y g' c' h r)
 
-pub own_refused : (f g : Facts) (c : Campaign) (x : FreshStep) (e : FreshStep × CampaignRefusal) (g' : Facts) (c' : Campaign) → Held f c x.inverter x.size → Collects g c x (Err e) g' c' → Held f c' e.0.inverter e.0.size
+pub own_refused : (f g : Facts) (c : Campaign) (x : Step Fresh) (e : Step Fresh × CampaignRefusal) (g' : Facts) (c' : Campaign) → Held f c x.inverter x.size → Collects g c x (Err e) g' c' → Held f c' e.0.inverter e.0.size
 own_refused f g c x e g' c' h r =
     subst (λ d. Held f d e.0.inverter e.0.size) (sym r.campaign) (refused_held f g c c x e g' c' h r)
 
 -- and so where another campaign does, behind an accepted commencing
-pub elsewhere_collected : (f : Facts) (c : Campaign) (o : Campaign) (x : FreshStep) (y : CollectedStep) (f' : Facts) (o' : Campaign) → Follows x f c → Collects f o x (Ok y) f' o' → Held f c y.inverter y.size
+pub elsewhere_collected : (f : Facts) (c : Campaign) (o : Campaign) (x : Step Fresh) (y : Step Collected) (f' : Facts) (o' : Campaign) → Follows x f c → Collects f o x (Ok y) f' o' → Held f c y.inverter y.size
 elsewhere_collected f c o x y f' o' h r = collected_held f f c o x y f' o' (h.match, h.out) r
 
-pub elsewhere_refused : (f : Facts) (c : Campaign) (o : Campaign) (x : FreshStep) (e : FreshStep × CampaignRefusal) (f' : Facts) (o' : Campaign) → Follows x f c → Collects f o x (Err e) f' o' → Held f c e.0.inverter e.0.size
+pub elsewhere_refused : (f : Facts) (c : Campaign) (o : Campaign) (x : Step Fresh) (e : Step Fresh × CampaignRefusal) (f' : Facts) (o' : Campaign) → Follows x f c → Collects f o x (Err e) f' o' → Held f c e.0.inverter e.0.size
 elsewhere_refused f c o x e f' o' h r = refused_held f f c o x e f' o' (h.match, h.out) r
 
 -- and so where its own campaign collects it on another source
-pub swapped_collected : (f g : Facts) (c : Campaign) (x : FreshStep) (y : CollectedStep) (g' : Facts) (c' : Campaign) → Follows x f c → Collects g c x (Ok y) g' c' → Held f c' y.inverter y.size
+pub swapped_collected : (f g : Facts) (c : Campaign) (x : Step Fresh) (y : Step Collected) (g' : Facts) (c' : Campaign) → Follows x f c → Collects g c x (Ok y) g' c' → Held f c' y.inverter y.size
 swapped_collected f g c x y g' c' h r = own_collected f g c x y g' c' (h.match, h.out) r
 
-pub swapped_refused : (f g : Facts) (c : Campaign) (x : FreshStep) (e : FreshStep × CampaignRefusal) (g' : Facts) (c' : Campaign) → Follows x f c → Collects g c x (Err e) g' c' → Held f c' e.0.inverter e.0.size
+pub swapped_refused : (f g : Facts) (c : Campaign) (x : Step Fresh) (e : Step Fresh × CampaignRefusal) (g' : Facts) (c' : Campaign) → Follows x f c → Collects g c x (Err e) g' c' → Held f c' e.0.inverter e.0.size
 swapped_refused f g c x e g' c' h r = own_refused f g c x e g' c' (h.match, h.out) r

@@ -1,4 +1,4 @@
-use crate::given::{MUTE, THREE, says, table, three_buses, three_standing};
+use crate::given::{MUTE, THREE, refused, table, three_buses, three_standing};
 use crate::hands::{foreign, hand_over, second, swapped};
 use campaign::{Campaign, CampaignRefusal, open_campaign, probe_all};
 use probing::Source;
@@ -7,22 +7,25 @@ use sources::TableSource;
 use std::process::Abort;
 use std::test::Fail;
 
-// Whether a probe of the inverter was refused so.
-fn refused(
+// Whether a call that named the inverter was refused so.
+fn refused_of<T: Drop>(
     rt: &impl Abort,
-    answer: Result<(), CampaignRefusal>,
+    answer: Result<T, CampaignRefusal>,
     inverter: usize,
     layer: Layer,
     number: u8,
     place: usize,
 ) -> Result<(), Fail> {
-    match answer {
-        Ok(()) => Err(Fail::new("accepted")),
-        Err(refusal) => {
-            assert_eq!(rt; refusal.inverter, inverter);
-            says(rt, refusal.fault.refusal(), layer, number, place)
-        }
+    if let Err(refusal) = &answer {
+        assert_eq!(rt; refusal.inverter, inverter);
     }
+    refused(
+        rt,
+        answer.map_err(|refusal| refusal.fault),
+        layer,
+        number,
+        place,
+    )
 }
 
 // The column of an inverter over three buses.
@@ -79,7 +82,7 @@ fn all_columns_of_lines(rt: HostRuntime) -> Result<(), Fail> {
 fn the_source_refuses(rt: HostRuntime) -> Result<(), Fail> {
     let mut source = table(THREE)?;
     let mut campaign = open_campaign(&source);
-    refused(
+    refused_of(
         &rt,
         campaign.probe(&mut source, 1, 100),
         1,
@@ -87,7 +90,7 @@ fn the_source_refuses(rt: HostRuntime) -> Result<(), Fail> {
         9,
         1,
     )?;
-    refused(
+    refused_of(
         &rt,
         campaign.probe(&mut source, 2, 0),
         2,
@@ -103,7 +106,7 @@ fn the_source_refuses(rt: HostRuntime) -> Result<(), Fail> {
 fn a_mute_meter_stops_the_commencing(rt: HostRuntime) -> Result<(), Fail> {
     let mut source = table(MUTE)?;
     let mut campaign = open_campaign(&source);
-    refused(
+    refused_of(
         &rt,
         campaign.probe(&mut source, 1, 100),
         1,
@@ -121,7 +124,7 @@ fn another_source(rt: HostRuntime) -> Result<(), Fail> {
     let source = table(THREE)?;
     let mut campaign = open_campaign(&source);
     let mut other = TableSource::new();
-    refused(
+    refused_of(
         &rt,
         campaign.probe(&mut other, 2, 100),
         2,
@@ -130,7 +133,7 @@ fn another_source(rt: HostRuntime) -> Result<(), Fail> {
         2,
     )?;
     let mut fewer = table(b"probe,step,1,2,3\r\n2,1,0.0003,0.0005,0.0003")?;
-    refused(
+    refused_of(
         &rt,
         campaign.probe(&mut fewer, 2, 100),
         2,
@@ -148,7 +151,7 @@ fn an_inverter_off_its_schedule(rt: HostRuntime) -> Result<(), Fail> {
     let mut source = table(THREE)?;
     source.command(2, 70)?;
     let mut campaign = open_campaign(&source);
-    refused(
+    refused_of(
         &rt,
         campaign.probe(&mut source, 2, 100),
         2,
@@ -168,7 +171,7 @@ fn a_second_step_is_refused(rt: HostRuntime) -> Result<(), Fail> {
     let mut source = table(THREE)?;
     let mut campaign = open_campaign(&source);
     let refusal = second(&mut campaign, &mut source, 2, 3, 100)?;
-    refused(&rt, Err(refusal), 3, Layer::Campaign, 11, 2)?;
+    refused_of(&rt, Err::<(), _>(refusal), 3, Layer::Campaign, 11, 2)?;
     no_column(&rt, &campaign, 2);
     assert_eq!(rt; source.setting(2), 0);
     campaign.probe(&mut source, 3, 100)?;
@@ -180,10 +183,8 @@ fn a_second_step_is_refused(rt: HostRuntime) -> Result<(), Fail> {
 fn a_step_of_another_campaign(rt: HostRuntime) -> Result<(), Fail> {
     let mut source = table(THREE)?;
     let mut campaign = open_campaign(&source);
-    let Some(refusal) = foreign(&mut campaign, &mut source, 2, 100)? else {
-        return Err(Fail::new("collected"));
-    };
-    refused(&rt, Err(refusal), 2, Layer::Campaign, 14, 2)?;
+    let refusal = foreign(&mut campaign, &mut source, 2, 100)?.ok_or("collected")?;
+    refused_of(&rt, Err::<(), _>(refusal), 2, Layer::Campaign, 14, 2)?;
     no_column(&rt, &campaign, 2);
     assert_eq!(rt; source.setting(2), 0);
     Ok(())
@@ -195,10 +196,8 @@ fn changed(rt: &impl Abort, standing: &[i64], bus: usize) -> Result<(), Fail> {
     let mut source = three_buses()?;
     let mut other = three_standing(standing)?;
     let mut campaign = open_campaign(&source);
-    let Some(refusal) = swapped(&mut campaign, &mut source, &mut other, 2, 100)? else {
-        return Err(Fail::new("collected"));
-    };
-    refused(rt, Err(refusal), 2, Layer::Campaign, 15, bus)?;
+    let refusal = swapped(&mut campaign, &mut source, &mut other, 2, 100)?.ok_or("collected")?;
+    refused_of(rt, Err::<(), _>(refusal), 2, Layer::Campaign, 15, bus)?;
     no_column(rt, &campaign, 2);
     assert_eq!(rt; source.setting(2), 0);
     Ok(())

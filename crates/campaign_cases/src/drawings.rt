@@ -1,4 +1,4 @@
-use crate::given::{THREE, line, says, table, three, three_buses, three_lines};
+use crate::given::{THREE, line, refused, table, three, three_buses, three_lines};
 use campaign::{Campaign, open_campaign, probe_all};
 use drawing::draw_campaign;
 use feeder::{Kind, Map};
@@ -19,7 +19,7 @@ fn drawn(campaign: &Campaign, kind: Kind) -> Result<Map, Fail> {
 }
 
 // Whether a drawing is refused so, and leaves the map of three buses in its place.
-fn refused(
+fn turned_down(
     rt: &impl Abort,
     campaign: &Campaign,
     kind: Kind,
@@ -27,20 +27,16 @@ fn refused(
     place: usize,
 ) -> Result<(), Fail> {
     let mut map = three_lines()?;
-    match draw_campaign(campaign, kind, &mut map) {
-        Ok(()) => Err(Fail::new("drawn")),
-        Err(fault) => {
-            says(rt, fault.refusal(), Layer::Drawing, number, place)?;
-            three(rt, &map)
-        }
-    }
+    let answer = draw_campaign(campaign, kind, &mut map);
+    refused(rt, answer, Layer::Drawing, number, place)?;
+    three(rt, &map)
 }
 
 #[test]
 fn three_metered_buses(rt: HostRuntime) -> Result<(), Fail> {
     let campaign = surveyed(THREE)?;
     three(&rt, &drawn(&campaign, Kind::Complete)?)?;
-    refused(&rt, &campaign, Kind::Reduced, 17, 1)
+    turned_down(&rt, &campaign, Kind::Reduced, 17, 1)
 }
 
 #[test]
@@ -54,10 +50,10 @@ fn a_feeder_is_drawn_back(rt: HostRuntime) -> Result<(), Fail> {
 fn a_column_is_missing(rt: HostRuntime) -> Result<(), Fail> {
     let mut source = table(THREE)?;
     let mut campaign = open_campaign(&source);
-    refused(&rt, &campaign, Kind::Complete, 16, 2)?;
-    refused(&rt, &campaign, Kind::Reduced, 16, 2)?;
+    turned_down(&rt, &campaign, Kind::Complete, 16, 2)?;
+    turned_down(&rt, &campaign, Kind::Reduced, 16, 2)?;
     campaign.probe(&mut source, 2, 100)?;
-    refused(&rt, &campaign, Kind::Complete, 16, 3)?;
+    turned_down(&rt, &campaign, Kind::Complete, 16, 3)?;
     campaign.probe(&mut source, 3, 100)?;
     three(&rt, &drawn(&campaign, Kind::Complete)?)
 }
@@ -67,14 +63,14 @@ fn a_column_is_missing_before_another(rt: HostRuntime) -> Result<(), Fail> {
     let mut source = table(THREE)?;
     let mut campaign = open_campaign(&source);
     campaign.probe(&mut source, 3, 100)?;
-    refused(&rt, &campaign, Kind::Complete, 16, 2)
+    turned_down(&rt, &campaign, Kind::Complete, 16, 2)
 }
 
 #[test]
 fn a_bus_at_the_substation(rt: HostRuntime) -> Result<(), Fail> {
     let campaign = surveyed(b"probe,step,1\r\n1,1.000,0.000000")?;
-    refused(&rt, &campaign, Kind::Complete, 18, 0)?;
-    refused(&rt, &campaign, Kind::Reduced, 18, 0)
+    turned_down(&rt, &campaign, Kind::Complete, 18, 0)?;
+    turned_down(&rt, &campaign, Kind::Reduced, 18, 0)
 }
 
 #[test]
@@ -82,7 +78,7 @@ fn a_fork_between_two_buses(rt: HostRuntime) -> Result<(), Fail> {
     let campaign = surveyed(
         b"probe,step,1,2\r\n1,1.000,0.000500,0.000300\r\n2,1.000,0.000300,0.000800",
     )?;
-    refused(&rt, &campaign, Kind::Complete, 18, 0)?;
+    turned_down(&rt, &campaign, Kind::Complete, 18, 0)?;
     let map = drawn(&campaign, Kind::Reduced)?;
     assert_eq!(rt; map.buses(), 3);
     line(&rt, &map, 1, 3, 200);
@@ -108,8 +104,8 @@ fn two_columns_that_differ(rt: HostRuntime) -> Result<(), Fail> {
     let campaign = surveyed(
         b"probe,step,1,2\r\n1,1.000,0.000500,0.000300\r\n2,1.000,0.000200,0.000800",
     )?;
-    refused(&rt, &campaign, Kind::Complete, 18, 0)?;
-    refused(&rt, &campaign, Kind::Reduced, 18, 0)
+    turned_down(&rt, &campaign, Kind::Complete, 18, 0)?;
+    turned_down(&rt, &campaign, Kind::Reduced, 18, 0)
 }
 
 #[test]
@@ -117,7 +113,7 @@ fn three_columns_of_no_tree(rt: HostRuntime) -> Result<(), Fail> {
     let campaign = surveyed(
         b"probe,step,1,2,3\r\n1,1.000,0.000900,0.000500,0.000100\r\n2,1.000,0.000500,0.000900,0.000400\r\n3,1.000,0.000100,0.000400,0.000900",
     )?;
-    refused(&rt, &campaign, Kind::Reduced, 18, 0)
+    turned_down(&rt, &campaign, Kind::Reduced, 18, 0)
 }
 
 #[test]

@@ -14,10 +14,8 @@ pub(crate) const MUTE: &[u8] = b"probe,step,1,2\r\n1,0.1,0.01,\r\n";
 
 pub(crate) fn table(file: &[u8]) -> Result<TableSource, Fail> {
     let mut source = TableSource::new();
-    match source.load(file) {
-        Ok(()) => Ok(source),
-        Err(_) => Err(Fail::new("no table")),
-    }
+    source.load(file)?;
+    Ok(source)
 }
 
 fn from(parent: usize, resistance: u32) -> Line {
@@ -25,20 +23,15 @@ fn from(parent: usize, resistance: u32) -> Line {
 }
 
 pub(crate) fn three_lines() -> Result<Map, Fail> {
-    match Map::from_lines(3, &[from(0, 300), from(1, 200), from(1, 500)]) {
-        Ok(map) => Ok(map),
-        Err(_) => Err(Fail::new("no map")),
-    }
+    Ok(Map::from_lines(3, &[from(0, 300), from(1, 200), from(1, 500)])?)
 }
 
 // The feeder of three buses with inverters at buses 2 and 3, and these standing voltages.
 pub(crate) fn three_standing(standing: &[i64]) -> Result<FeederSource, Fail> {
     let map = three_lines()?;
     let mut source = FeederSource::new();
-    match source.make(&map, &[2, 3], standing) {
-        Ok(()) => Ok(source),
-        Err(_) => Err(Fail::new("no feeder")),
-    }
+    source.make(&map, &[2, 3], standing)?;
+    Ok(source)
 }
 
 pub(crate) fn three_buses() -> Result<FeederSource, Fail> {
@@ -60,21 +53,27 @@ pub(crate) fn three(rt: &impl Abort, map: &Map) -> Result<(), Fail> {
     Ok(())
 }
 
-// Whether a refusal has this layer, number and place.
-pub(crate) fn says(
+// Whether a call is refused with this layer, number and place.
+pub(crate) fn refused<T: Drop, E: Into<Refusal>>(
     rt: &impl Abort,
-    refusal: Refusal,
+    answer: Result<T, E>,
     layer: Layer,
     number: u8,
     place: usize,
 ) -> Result<(), Fail> {
-    assert_eq!(rt;
-        refusal,
-        Refusal {
-            number,
-            layer,
-            place,
+    match answer {
+        Ok(_) => Err(Fail::new("accepted")),
+        Err(fault) => {
+            let refusal: Refusal = fault.into();
+            assert_eq!(rt;
+                refusal,
+                Refusal {
+                    number,
+                    layer,
+                    place,
+                }
+            );
+            Ok(())
         }
-    );
-    Ok(())
+    }
 }

@@ -2,23 +2,14 @@
 ghost use Rattle.std.specs.Prelude.{◌≡◌, true};
 ghost use Rattle.campaign.specs.Columns.{same, is_outstanding};
 
-use campaign::{Campaign, CampaignRefusal, CollectedStep, FreshStep, open_campaign};
+use campaign::{Campaign, CampaignRefusal, FreshStep, Step, open_campaign};
 use probing::Source;
 
-// Withdraws the outstanding step, not collected.
-fn put_back<S: Source>(campaign: &mut Campaign, source: &mut S, step: FreshStep)
+// Withdraws the outstanding step.
+fn put_back<S: Source, P>(campaign: &mut Campaign, source: &mut S, step: Step<P>)
     requires { (same (S.Source.facts source.old) campaign.old ≡ true) × (is_outstanding campaign.old step.inverter step.size ≡ true) }
 {
-    match campaign.withdraw_fresh(source, step) {
-        Ok(()) => {}
-        Err(_) => unreachable(),
-    }
-}
-
-// Withdraws the outstanding step, collected.
-fn hand_in<S: Source>(campaign: &mut Campaign, source: &mut S, step: CollectedStep)
-    requires { (same (S.Source.facts source.old) campaign.old ≡ true) × (is_outstanding campaign.old step.inverter step.size ≡ true) }
-{
+    // No unwrap, which could let a step in the error go: the compiler refuses that.
     match campaign.withdraw(source, step) {
         Ok(()) => {}
         Err(_) => unreachable(),
@@ -54,7 +45,7 @@ pub(crate) fn foreign<S: Source>(
     let mut other = open_campaign(source);
     match other.collect(source, fresh) {
         Ok(collected) => {
-            hand_in(campaign, source, collected);
+            put_back(campaign, source, collected);
             Ok(None)
         }
         Err((fresh, refusal)) => {
@@ -75,7 +66,7 @@ pub(crate) fn swapped<S: Source>(
     let fresh = campaign.commence(source, inverter, step)?;
     match campaign.collect(other, fresh) {
         Ok(collected) => {
-            hand_in(campaign, source, collected);
+            put_back(campaign, source, collected);
             Ok(None)
         }
         Err((fresh, refusal)) => {
@@ -91,7 +82,7 @@ fn take_over<S: Source>(campaign: &mut Campaign, source: &mut S, fresh: FreshSte
 {
     match campaign.collect(source, fresh) {
         Ok(collected) => {
-            hand_in(campaign, source, collected);
+            put_back(campaign, source, collected);
             true
         }
         Err((fresh, _)) => {

@@ -1,22 +1,10 @@
-use crate::given::{MUTE, THREE, says, table, three_buses, three_lines};
+use crate::given::{MUTE, THREE, refused, table, three_buses, three_lines};
 use feeder::Map;
-use probing::{Source, SourceFault, probe_once};
+use probing::{Source, probe_once};
 use refusals::Layer;
 use sources::FeederSource;
 use std::process::Abort;
 use std::test::Fail;
-
-fn refused<T: Drop>(
-    rt: &impl Abort,
-    answer: Result<T, SourceFault>,
-    number: u8,
-    place: usize,
-) -> Result<(), Fail> {
-    match answer {
-        Ok(_) => Err(Fail::new("accepted")),
-        Err(fault) => says(rt, fault.refusal(), Layer::Source, number, place),
-    }
-}
 
 fn inverters<S: Source>(rt: &impl Abort, source: &S) {
     assert!(rt; source.buses() == 3);
@@ -71,20 +59,20 @@ fn probes<S: Source>(rt: &impl Abort, source: &mut S) -> Result<(), Fail> {
 }
 
 fn bad_commands<S: Source>(rt: &impl Abort, source: &mut S) -> Result<(), Fail> {
-    refused(rt, source.command(1, 100), 9, 1)?;
-    refused(rt, source.command(1, 0), 9, 1)?;
-    refused(rt, source.command(4, 100), 9, 4)?;
-    refused(rt, source.command(2, 0), 10, 2)?;
-    refused(rt, source.command(2, 1_001), 10, 2)?;
-    refused(rt, source.command(2, -1_001), 10, 2)?;
+    refused(rt, source.command(1, 100), Layer::Source, 9, 1)?;
+    refused(rt, source.command(1, 0), Layer::Source, 9, 1)?;
+    refused(rt, source.command(4, 100), Layer::Source, 9, 4)?;
+    refused(rt, source.command(2, 0), Layer::Source, 10, 2)?;
+    refused(rt, source.command(2, 1_001), Layer::Source, 10, 2)?;
+    refused(rt, source.command(2, -1_001), Layer::Source, 10, 2)?;
     stands(rt, source);
     Ok(())
 }
 
 fn commands_twice<S: Source>(rt: &impl Abort, source: &mut S) -> Result<(), Fail> {
     source.command(2, 100)?;
-    refused(rt, source.command(2, 100), 13, 2)?;
-    refused(rt, source.command(2, 0), 10, 2)?;
+    refused(rt, source.command(2, 100), Layer::Source, 13, 2)?;
+    refused(rt, source.command(2, 0), Layer::Source, 10, 2)?;
     settings(rt, source, 100, 0);
     source.withdraw(2)?;
     source.command(2, -1_000)?;
@@ -93,9 +81,9 @@ fn commands_twice<S: Source>(rt: &impl Abort, source: &mut S) -> Result<(), Fail
 }
 
 fn bad_readings<S: Source>(rt: &impl Abort, source: &mut S) -> Result<(), Fail> {
-    refused(rt, source.read(4), 12, 4)?;
-    refused(rt, source.read(0), 12, 0)?;
-    refused(rt, source.withdraw(1), 9, 1)?;
+    refused(rt, source.read(4), Layer::Source, 12, 4)?;
+    refused(rt, source.read(0), Layer::Source, 12, 0)?;
+    refused(rt, source.withdraw(1), Layer::Source, 9, 1)?;
     source.withdraw(2)?;
     stands(rt, source);
     Ok(())
@@ -132,7 +120,13 @@ fn not_made(
     place: usize,
 ) -> Result<(), Fail> {
     let mut source = FeederSource::new();
-    refused(rt, source.make(map, inverters, standing), 21, place)?;
+    refused(
+        rt,
+        source.make(map, inverters, standing),
+        Layer::Source,
+        21,
+        place,
+    )?;
     assert_eq!(rt; source.buses(), 1);
     Ok(())
 }
@@ -163,9 +157,9 @@ fn standing_voltages_are_read(rt: HostRuntime) -> Result<(), Fail> {
 #[test]
 fn a_mute_meter_is_not_read(rt: HostRuntime) -> Result<(), Fail> {
     let mut source = table(MUTE)?;
-    refused(&rt, source.read(2), 12, 2)?;
+    refused(&rt, source.read(2), Layer::Source, 12, 2)?;
     source.command(1, 100)?;
-    refused(&rt, source.read(2), 12, 2)?;
+    refused(&rt, source.read(2), Layer::Source, 12, 2)?;
     assert_eq!(rt; source.read(1), Ok(10_000_000));
     Ok(())
 }

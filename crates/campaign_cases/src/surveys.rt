@@ -1,4 +1,4 @@
-use crate::given::{MUTE, THREE, says, three, three_lines};
+use crate::given::{MUTE, THREE, refused, three, three_lines};
 use feeder::{Kind, Map};
 use probing::Source;
 use refusals::Layer;
@@ -8,7 +8,7 @@ use std::test::Fail;
 use survey::{survey_feeder, survey_file};
 
 // Whether a survey is refused so, and leaves the map of three buses in its place.
-fn refused(
+fn turned_down(
     rt: &impl Abort,
     file: &[u8],
     kind: Kind,
@@ -17,36 +17,23 @@ fn refused(
     place: usize,
 ) -> Result<(), Fail> {
     let mut map = three_lines()?;
-    match survey_file(file, kind, &mut map) {
-        Ok(()) => Err(Fail::new("drawn")),
-        Err(fault) => {
-            says(rt, fault.refusal(), layer, number, place)?;
-            assert_eq!(rt; map.buses(), 3);
-            assert_eq!(rt; map.resistance(3), Some(500));
-            Ok(())
-        }
-    }
+    refused(rt, survey_file(file, kind, &mut map), layer, number, place)?;
+    three(rt, &map)
 }
 
 #[test]
-fn a_file_of_three_buses(rt: HostRuntime) {
+fn a_file_of_three_buses(rt: HostRuntime) -> Result<(), Fail> {
     let mut map = Map::new();
-    assert!(rt; survey_file(THREE, Kind::Complete, &mut map).is_ok());
-    assert_eq!(rt; map.buses(), 3);
-    assert_eq!(rt; map.parent(1), Some(0));
-    assert_eq!(rt; map.resistance(1), Some(300));
-    assert_eq!(rt; map.parent(2), Some(1));
-    assert_eq!(rt; map.resistance(2), Some(200));
-    assert_eq!(rt; map.parent(3), Some(1));
-    assert_eq!(rt; map.resistance(3), Some(500));
+    survey_file(THREE, Kind::Complete, &mut map)?;
+    three(&rt, &map)
 }
 
 #[test]
 fn the_first_refusal_ends_a_survey(rt: HostRuntime) -> Result<(), Fail> {
-    refused(&rt, b"", Kind::Complete, Layer::File, 3, 0)?;
-    refused(&rt, MUTE, Kind::Reduced, Layer::Source, 12, 2)?;
-    refused(&rt, THREE, Kind::Reduced, Layer::Drawing, 17, 1)?;
-    refused(
+    turned_down(&rt, b"", Kind::Complete, Layer::File, 3, 0)?;
+    turned_down(&rt, MUTE, Kind::Reduced, Layer::Source, 12, 2)?;
+    turned_down(&rt, THREE, Kind::Reduced, Layer::Drawing, 17, 1)?;
+    turned_down(
         &rt,
         b"probe,step,1\r\n1,1.000,-0.000005",
         Kind::Reduced,
@@ -60,16 +47,13 @@ fn the_first_refusal_ends_a_survey(rt: HostRuntime) -> Result<(), Fail> {
 fn a_feeder_comes_back(rt: HostRuntime) -> Result<(), Fail> {
     let mut source = FeederSource::new();
     let mut map = Map::new();
-    assert!(rt;
-        survey_feeder(
-            &three_lines()?,
-            &[3, 2],
-            &[5, -7, 11],
-            &mut source,
-            &mut map,
-        )
-        .is_ok()
-    );
+    survey_feeder(
+        &three_lines()?,
+        &[3, 2],
+        &[5, -7, 11],
+        &mut source,
+        &mut map,
+    )?;
     three(&rt, &map)?;
     assert_eq!(rt; map.metered(), 3);
     assert_eq!(rt; source.setting(2), 0);
@@ -82,10 +66,8 @@ fn a_feeder_comes_back(rt: HostRuntime) -> Result<(), Fail> {
 fn an_end_without_an_inverter(rt: HostRuntime) -> Result<(), Fail> {
     let mut source = FeederSource::new();
     let mut map = three_lines()?;
-    match survey_feeder(&three_lines()?, &[2], &[0, 0, 0], &mut source, &mut map) {
-        Ok(()) => return Err(Fail::new("drawn")),
-        Err(fault) => says(&rt, fault.refusal(), Layer::Drawing, 18, 0)?,
-    }
+    let answer = survey_feeder(&three_lines()?, &[2], &[0, 0, 0], &mut source, &mut map);
+    refused(&rt, answer, Layer::Drawing, 18, 0)?;
     three(&rt, &map)?;
     assert_eq!(rt; source.buses(), 1);
     Ok(())
@@ -95,16 +77,14 @@ fn an_end_without_an_inverter(rt: HostRuntime) -> Result<(), Fail> {
 fn a_feeder_that_is_not_made(rt: HostRuntime) -> Result<(), Fail> {
     let mut source = FeederSource::new();
     let mut map = three_lines()?;
-    match survey_feeder(
+    let answer = survey_feeder(
         &three_lines()?,
         &[3, 2, 3],
         &[0, 0, 0],
         &mut source,
         &mut map,
-    ) {
-        Ok(()) => return Err(Fail::new("drawn")),
-        Err(fault) => says(&rt, fault.refusal(), Layer::Source, 21, 2)?,
-    }
+    );
+    refused(&rt, answer, Layer::Source, 21, 2)?;
     three(&rt, &map)?;
     assert_eq!(rt; source.buses(), 1);
     Ok(())

@@ -1,12 +1,11 @@
 -- The unmetered buses seated so far, one branch after the other.
-use Rattle.std.proofs.Common.{◌≡◌, ℕ, ◌+◌, ◌<◌, ◌≤◌, false, cond, eqb, leb, ◌⊎◌, List, length, get_or, set, sym, refl, ap, ◌∙◌, subst, inl, inr, ⊎_elim, arith}
-use Rattle.std.proofs.lemmas.List.{length-set, get_or-set_same, get_or-set_other}
-use Rattle.std.proofs.lemmas.Bool.{cases_eq, cases_order, eq-eqb, ne_eqb, le-leb, lt-leb, cond-true, cond-false, true≢false}
+use Rattle.std.proofs.Common.{◌≡◌, ℕ, ◌+◌, ◌<◌, ◌≤◌, cond, eqb, leb, ◌⊎◌, List, [], ◌∷◌, ◌++◌, length, get_or, Some, None, Option, MatchOption, sym, refl, ap, ◌∙◌, subst, inl, inr, ⊎_elim, arith}
+use Rattle.std.proofs.lemmas.List.{length_push, get_or_push, get_or_append_left}
+use Rattle.std.proofs.lemmas.Bool.{cases_eq, cases_order, eq-eqb, ne_eqb, le-leb, lt-leb, cond-true, cond-false}
 use Rattle.drawing.specs.declared.seat.Seat.{Seat}
-use Rattle.drawing.specs.declared.seats.Seating.{Seating}
 use Rattle.drawing.specs.Seats.{Entries, Inverter, Metering, Branch, Listing, Whole}
-use Rattle.drawing.specs.Places.{start, seat_of, far_of, MeteredSeats, BranchAt, BranchAfter, Later, SeatAfter, NoSeatAfter}
-use Rattle.drawing.specs.Seating.{Seated, Overseated}
+use Rattle.drawing.specs.Places.{start, seat_of, far_of, MeteredSeats, BranchAt, BranchAfter, Later, SeatOn, SeatAfter, NoSeatAfter}
+use Rattle.drawing.specs.Seating.{last_of, Seated, Overseated}
 
 -- a seat comes behind one that comes behind another
 later_trans : (a b : Seat) (m v : ℕ) → Later a b.inverter b.distance → Later b m v → Later a m v
@@ -29,24 +28,39 @@ module _ (last : Seat) (m above : ℕ) (passed : above ≡ cond (eqb last.invert
   above_later : (v : ℕ) → above < v → Later last m v
   above_later v l = ⊎_elim (λ e. inr (e, omega (arith, passed_here e))) (λ n. inl (omega arith)) (cases_eq last.inverter m)
 
-  module _ (E : Entries) (s : List Seat) (none : (j u : ℕ) → j < m → BranchAt E s j u → Later last j u → ⊥) where
-    -- the first branch of inverter m's way that comes behind the seat, where lower inverters have none
-    pub seat_after : (v : ℕ) → BranchAfter E s m above v → SeatAfter E s last (record { inverter = m; distance = v })
-    seat_after v B = record { later = above_later v B.farther; branch = B.branch; first = first }
-      where
-        same : (u : ℕ) → v ≤ u → Later (record { inverter = m; distance = v }) m u ⊎ ((m ≡ m) × (v ≡ u))
-        same u l = ⊎_elim (λ e. inr (refl, e)) (λ n. inl (inr (refl, omega arith))) (cases_eq v u)
+  module _ (E : Entries) (s : List Seat) where
+    -- the first branch of inverter m's way that comes behind the seat
+    pub seat_on : (v : ℕ) → BranchAfter E s m above v → SeatOn E s last m (record { inverter = m; distance = v })
+    seat_on v B = record { inverter = refl; later = above_later v B.farther; branch = B.branch; first = λ u b l. B.nearest u (later_above u b.positive l) b }
 
-        first : (j u : ℕ) → BranchAt E s j u → Later last j u → Later (record { inverter = m; distance = v }) j u ⊎ ((m ≡ j) × (v ≡ u))
-        first j u b l = ⊎_elim (λ e. subst (λ z. Later (record { inverter = m; distance = v }) z u ⊎ ((m ≡ z) × (v ≡ u))) (sym e) (same u (B.nearest u (later_above u b.positive (subst (λ z. Later last z u) e l)) (subst (λ z. BranchAt E s z u) e b)))) (λ o. ⊎_elim (λ k. absurd (none j u k b l)) (λ k. inl (inl k)) o) (cases_order j m)
+    pub none_on : ((u : ℕ) → above < u → BranchAt E s m u → ⊥) → (u : ℕ) → BranchAt E s m u → Later last m u → ⊥
+    none_on none u b l = none u (later_above u b.positive l) b
 
-    -- no branch of inverter m's way either
-    pub none_more : ((u : ℕ) → above < u → BranchAt E s m u → ⊥) → (j u : ℕ) → j < m + 1 → BranchAt E s j u → Later last j u → ⊥
-    none_more here j u l b q = ⊎_elim (λ e. here u (later_above u b.positive (subst (λ z. Later last z u) e q)) (subst (λ z. BranchAt E s z u) e b)) (λ n. none j u (omega arith) b q) (cases_eq j m)
+-- no branch of inverter m's way comes behind the seat
+abbrev pub NoneOn : Entries → List Seat → Seat → ℕ → Type 0
+NoneOn E s last m = (v : ℕ) → BranchAt E s m v → Later last m v → ⊥
 
--- a bus without an inverter has no branch
-pub none_at : (last : Seat) (m : ℕ) (E : Entries) (s : List Seat) → ((j u : ℕ) → j < m → BranchAt E s j u → Later last j u → ⊥) → E.has m ≡ false → (j u : ℕ) → j < m + 1 → BranchAt E s j u → Later last j u → ⊥
-none_at last m E s none no_inverter j u l b q = ⊎_elim (λ e. true≢false (sym (ap E.has (sym e) ∙ b.inverter.1) ∙ no_inverter)) (λ n. none j u (omega arith) b q) (cases_eq j m)
+later_from : (last : Seat) (m v : ℕ) → Later last m v → last.inverter ≤ m
+later_from last m v (inl l) = omega arith
+later_from last m v (inr (e, l)) = omega arith
+
+module _ (E : Entries) (s : List Seat) (last : Seat) where
+  -- the branch of the lowest inverter with one behind the seat comes next
+  seat_after : (next : Seat) → ((m : ℕ) × (last.inverter ≤ m) × (m ≤ E.metered) × SeatOn E s last m next × ((k : ℕ) → last.inverter ≤ k → k < m → NoneOn E s last k)) → SeatAfter E s last next
+  seat_after next (m, lo, hi, S, none) = record { later = subst (λ k. Later last k next.distance) (sym S.inverter) S.later; branch = subst (λ k. BranchAt E s k next.distance) (sym S.inverter) S.branch; first = first }
+    where
+      same : (v : ℕ) → next.distance ≤ v → Later next m v ⊎ ((next.inverter ≡ m) × (next.distance ≡ v))
+      same v l = ⊎_elim (λ e. inr (S.inverter, e)) (λ n. inl (inr (S.inverter, omega arith))) (cases_eq next.distance v)
+
+      first : (k v : ℕ) → BranchAt E s k v → Later last k v → Later next k v ⊎ ((next.inverter ≡ k) × (next.distance ≡ v))
+      first k v b l = ⊎_elim (λ e. subst (λ z. Later next z v ⊎ ((next.inverter ≡ z) × (next.distance ≡ v))) (sym e) (same v (S.first v (subst (λ z. BranchAt E s z v) e b) (subst (λ z. Later last z v) e l)))) (λ o. ⊎_elim (λ q. absurd (none k (later_from last k v l) q v b l)) (λ q. inl (inl (omega (arith, S.inverter)))) o) (cases_order k m)
+
+  no_seat_after : ((m : ℕ) → last.inverter ≤ m → m ≤ E.metered → NoneOn E s last m) → NoSeatAfter E s last
+  no_seat_after none m v b l = none m (later_from last m v l) b.inverter.0.1 v b l
+
+  pub next_is : (o : Option Seat) → MatchOption o ((m : ℕ) → last.inverter ≤ m → m ≤ E.metered → NoneOn E s last m) (λ next. (m : ℕ) × (last.inverter ≤ m) × (m ≤ E.metered) × SeatOn E s last m next × ((k : ℕ) → last.inverter ≤ k → k < m → NoneOn E s last k)) → MatchOption o (NoSeatAfter E s last) (λ next. SeatAfter E s last next)
+  next_is None none = no_seat_after none
+  next_is (Some next) h = seat_after next h
 
 -- the branches up to the last seat are the seats of the unmetered buses up to count
 pub record Listed (E : Entries) (s : List Seat) (at : ℕ → Seat) (count : ℕ) (last : Seat) : Type 0 where
@@ -118,17 +132,19 @@ module _ (E : Entries) (s : List Seat) (at : ℕ → Seat) (count : ℕ) (last :
   listed_all none m v b = ⊎_elim (λ l. absurd (none m v (from_branch m v b) l)) (λ t. t) (L.whole m v (from_branch m v b))
 
 -- the same in places
-pub record ListedTo (E : Entries) (s t : List Seat) (count : ℕ) (last : Seat) : Type 0 where
-  pub places : length t ≡ 128
-  pub few : count ≤ E.metered + 63
-  pub listed : Listed E s (λ x. get_or t x start) count last
+pub record ListedTo (E : Entries) (s t : List Seat) (last : Seat) : Type 0 where
+  pub places : 0 < length t
+  pub few : last_of t ≤ E.metered + 63
+  pub listed : Listed E s (λ x. get_or t x start) (last_of t) last
 
 -- one seat behind the places
 abbrev extended : List Seat → ℕ → Seat → ℕ → Seat
 extended t count next x = cond (leb x count) (get_or t x start) next
 
-pub listed_none : (E : Entries) (s : List Seat) → MeteredSeats E s → ListedTo E s s E.metered (record { inverter = 1; distance = 0 })
-listed_none E s M = record { places = M.places; few = omega arith; listed = record { metered = omega arith; some = omega arith; same = λ x l. refl; end = inl refl; branches = λ x p l. absurd (past x p l); order = λ x y p q l. absurd (apart x y p q l); whole = λ m v b. inl (first m v b.inverter.0.0 b.positive) } }
+pub listed_none : (E : Entries) (s : List Seat) → MeteredSeats E s → ListedTo E s s (record { inverter = 1; distance = 0 })
+listed_none E s M =
+    let count : E.metered ≡ last_of s = omega (arith, M.places) in
+    record { places = omega (arith, M.places); few = omega (arith, M.places); listed = subst (λ n. Listed E s (λ x. get_or s x start) n (record { inverter = 1; distance = 0 })) count (record { metered = omega arith; some = omega arith; same = λ x l. refl; end = inl refl; branches = λ x p l. absurd (past x p l); order = λ x y p q l. absurd (apart x y p q l); whole = λ m v b. inl (first m v b.inverter.0.0 b.positive) }) }
   where
     past : (x : ℕ) → E.metered < x → x ≤ E.metered → ⊥
     past x p l = omega arith
@@ -139,19 +155,21 @@ listed_none E s M = record { places = M.places; few = omega arith; listed = reco
     first : (m v : ℕ) → 0 < m → 0 < v → Later (record { inverter = 1; distance = 0 }) m v
     first m v p q = ⊎_elim (λ e. inr (sym e, q)) (λ n. inl (omega arith)) (cases_eq m 1)
 
-module _ (E : Entries) (s t : List Seat) (count : ℕ) (last next : Seat) (L : ListedTo E s t count last) (N : SeatAfter E s last next) (few : E.metered ≤ 64) where
-  pub listed_more_to : (count ≡ E.metered + 63 → ⊥) → ListedTo E s (set t (count + 1) next) (count + 1) next
-  listed_more_to room = record { places = length-set t (count + 1) next ∙ L.places; few = omega (arith, L.few); listed = listed_more E s (λ x. get_or t x start) (λ x. get_or (set t (count + 1) next) x start) count last next L.listed N (λ x l. get_or-set_other t (count + 1) x next start (λ e. omega arith)) (get_or-set_same t (count + 1) next start (omega (arith, L.places, L.few))) }
+module _ (E : Entries) (s t : List Seat) (last next : Seat) (L : ListedTo E s t last) (N : SeatAfter E s last next) (few : E.metered ≤ 64) where
+  pub listed_more_to : length t ≤ E.metered + 63 → ListedTo E s (t ++ next ∷ []) next
+  listed_more_to room =
+      let count : last_of t + 1 ≡ last_of (t ++ next ∷ []) = omega (arith, length_push t next, L.places) in
+      record { places = omega (arith, length_push t next); few = omega (arith, length_push t next); listed = subst (λ n. Listed E s (λ x. get_or (t ++ next ∷ []) x start) n next) count (listed_more E s (λ x. get_or t x start) (λ x. get_or (t ++ next ∷ []) x start) (last_of t) last next L.listed N (λ x l. get_or_append_left t (next ∷ []) start x (omega (arith, L.places))) (get_or_push t next start (last_of t + 1) (omega (arith, L.places)))) }
 
   -- the next branch would be one too many
-  pub overseated : MeteredSeats E s → count ≡ E.metered + 63 → Overseated E
-  overseated M full = (few, (λ x. (extended t count next x).inverter, λ x. (extended t count next x).distance, listed_metering E s (extended t count next) (count + 1) next more M.metering, subst (Listing E (λ x. (extended t count next x).inverter) (λ x. (extended t count next x).distance)) full' (listed_listing E s (extended t count next) (count + 1) next more)))
+  pub overseated : MeteredSeats E s → E.metered + 63 < length t → Overseated E
+  overseated M full = (few, (λ x. (extended t (last_of t) next x).inverter, λ x. (extended t (last_of t) next x).distance, listed_metering E s (extended t (last_of t) next) (last_of t + 1) next more M.metering, subst (Listing E (λ x. (extended t (last_of t) next x).inverter) (λ x. (extended t (last_of t) next x).distance)) full' (listed_listing E s (extended t (last_of t) next) (last_of t + 1) next more)))
     where
-      full' : count + 1 ≡ E.metered + 64
-      full' = omega arith
+      full' : last_of t + 1 ≡ E.metered + 64
+      full' = omega (arith, L.few)
 
-      more : Listed E s (extended t count next) (count + 1) next
-      more = listed_more E s (λ x. get_or t x start) (extended t count next) count last next L.listed N (λ x l. cond-true _ _ _ (le-leb x count l)) (cond-false _ _ _ (lt-leb (count + 1) count (omega arith)))
+      more : Listed E s (extended t (last_of t) next) (last_of t + 1) next
+      more = listed_more E s (λ x. get_or t x start) (extended t (last_of t) next) (last_of t) last next L.listed N (λ x l. cond-true _ _ _ (le-leb x (last_of t) l)) (cond-false _ _ _ (lt-leb (last_of t + 1) (last_of t) (omega arith)))
 
-pub listed_seated : (E : Entries) (s : List Seat) (t : Seating) (last : Seat) → MeteredSeats E s → ListedTo E s t.seats t.count last → NoSeatAfter E s last → E.metered ≤ 64 → Seated E t
-listed_seated E s t last M L none few = let at : ℕ → Seat = λ x. get_or t.seats x start in record { places = L.places; few = omega (arith, L.few); substation = ap (λ (z : Seat). z.distance) (L.listed.same 0 (omega arith)) ∙ M.substation; metering = listed_metering E s at t.count last L.listed M.metering; listing = listed_listing E s at t.count last L.listed; whole = listed_all E s at t.count last L.listed none }
+pub listed_seated : (E : Entries) (s t : List Seat) (last : Seat) → MeteredSeats E s → ListedTo E s t last → NoSeatAfter E s last → E.metered ≤ 64 → Seated E t
+listed_seated E s t last M L none few = let at : ℕ → Seat = λ x. get_or t x start in record { places = L.places; few = omega (arith, L.few); substation = ap (λ (z : Seat). z.distance) (L.listed.same 0 (omega arith)) ∙ M.substation; metering = listed_metering E s at (last_of t) last L.listed M.metering; listing = listed_listing E s at (last_of t) last L.listed; whole = listed_all E s at (last_of t) last L.listed none }

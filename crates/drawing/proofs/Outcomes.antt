@@ -1,6 +1,7 @@
 -- What a drawing answers, from what its parts found.
-use Rattle.std.proofs.Common.{◌≡◌, ℕ, ◌<◌, ◌≤◌, List, length, take, None, Option, sym, ap, ◌∙◌, subst, inl, inr, ⊎_elim, arith, MatchOption}
-use Rattle.std.proofs.lemmas.Bool.{cases_lt}
+use Rattle.std.specs.Bool.{then_some}
+use Rattle.std.proofs.Common.{◌≡◌, ℕ, ◌<◌, ◌≤◌, Bool, true, false, List, length, None, Option, Decides, sym, refl, ap, ◌∙◌, subst, inl, inr, ⊎_elim, arith, MatchOption}
+use Rattle.std.proofs.lemmas.Bool.{cases_lt, false≢true}
 use Rattle.std.proofs.lemmas.Int.{ints}
 use Rattle.feeder.specs.declared.line.Line.{Line}
 use Rattle.feeder.specs.declared.kind.Kind.{Kind}
@@ -12,18 +13,18 @@ use Rattle.feeder.specs.Build.{Refused, FeedersMakeMaps}
 use Rattle.feeder.specs.Table.{Table, Yields, OfKind, NoFeeder}
 use Rattle.feeder.specs.View.{lines_of, metered_of, DrawnMap}
 use Rattle.feeder.proofs.Laws.{inverters_stand_below}
-use Rattle.drawing.specs.declared.seats.Seating.{Seating}
+use Rattle.drawing.specs.declared.seat.Seat.{Seat}
 use Rattle.drawing.specs.Seats.{Entries, Listing, Wiring}
 use Rattle.drawing.specs.Yielded.{Natural}
 use Rattle.drawing.specs.Columns.{Within}
 use Rattle.drawing.specs.Responses.{Near, Reads, WrongColumns}
 use Rattle.drawing.specs.Places.{seat_of, far_of}
-use Rattle.drawing.specs.Seating.{Seated, Unseated, Wires, MapSeated}
+use Rattle.drawing.specs.Seating.{last_of, Seated, Unseated, Wires, MapSeated}
 use Rattle.drawing.specs.Checks.{Passes}
 use Rattle.drawing.proofs.Exact.{seated_positive}
 use Rattle.drawing.proofs.Wired.{wired_feeder, drawn_distance}
 use Rattle.drawing.proofs.Drawings.{ends_of, to_yielded, of_yielded, to_inverter, of_inverter, none_without_distance, none_with_many, answered, refused}
-use Rattle.drawing.proofs.Wirings.{drawn_lines, wired}
+use Rattle.drawing.proofs.Wirings.{wired}
 
 -- what there is to show where no map is drawn
 pub no_map : (K : Kind) (T : Table) (o : Option Map) → o ≡ None → (Within T → NoFeeder K T) → MatchOption o (Within T → NoFeeder K T) (λ m. DrawnMap K T m)
@@ -42,24 +43,24 @@ unseated_none K T E A (inl (n, h, z)) = none_without_distance A K n h (λ m i. o
 unseated_none K T E A (inr (few, (seat, far, M, L))) = none_with_many A K M L few (omega arith)
 
 -- the lines of seats make a map
-module _ (E : Entries) (s : Seating) (lines : List Line) (S : Seated E s) (W : Wires E s lines) (some : 0 < E.metered) (near : Near E) where
+module _ (E : Entries) (s : List Seat) (lines : List Line) (S : Seated E s) (W : Wires E s lines) (some : 0 < E.metered) (near : Near E) where
   abbrev G : List Line
-  G = take s.count lines
+  G = lines
 
-  count : length G ≡ s.count
-  count = drawn_lines E s lines S W
+  count : length G ≡ last_of s
+  count = W.places
 
-  listing : Listing E (seat_of s.seats) (far_of s.seats) (length G)
-  listing = subst (Listing E (seat_of s.seats) (far_of s.seats)) (sym count) S.listing
+  listing : Listing E (seat_of s) (far_of s) (length G)
+  listing = subst (Listing E (seat_of s) (far_of s)) (sym count) S.listing
 
-  far_near : (x : ℕ) → Bus G x → far_of s.seats x ≤ 1000000
-  far_near x b = ⊎_elim (λ l. let t = S.listing.branches x l (omega (arith, b.1, count)) in omega (arith, t.below, near (seat_of s.seats x) (seat_of s.seats x) t.inverter.0 t.inverter)) (λ l. omega (arith, S.metering.reached x (b.0, l), near x (seat_of s.seats x) (b.0, l) (S.metering.inverter x (b.0, l)))) (cases_lt E.metered x)
+  far_near : (x : ℕ) → Bus G x → far_of s x ≤ 1000000
+  far_near x b = ⊎_elim (λ l. let t = S.listing.branches x l (omega (arith, b.1, count)) in omega (arith, t.below, near (seat_of s x) (seat_of s x) t.inverter.0 t.inverter)) (λ l. omega (arith, S.metering.reached x (b.0, l), near x (seat_of s x) (b.0, l) (S.metering.inverter x (b.0, l)))) (cases_lt E.metered x)
 
   pub lines_make_maps : FeedersMakeMaps → (e : Fault) → Refused E.metered G e → ⊥
   lines_make_maps make = make E.metered G (wired_feeder (wired E s lines S W) (omega (arith, count, S.listing.metered)) (λ x b. seated_positive S.metering listing x b.0 b.1)) (omega (arith, count, S.few)) (omega (arith, count, S.listing.metered)) (λ b h. omega (arith, drawn_distance (wired E s lines S W) S.metering listing b h, far_near b h))
 
   pub map_seated : (m : Map) → metered_of m ≡ E.metered → lines_of m ≡ G → MapSeated E s m
-  map_seated m e f = record { metered = e; count = ap length f ∙ count; wiring = subst (Wiring E (seat_of s.seats) (far_of s.seats)) (sym f) (wired E s lines S W) }
+  map_seated m e f = record { metered = e; count = ap length f ∙ count; wiring = subst (Wiring E (seat_of s) (far_of s)) (sym f) (wired E s lines S W) }
 
 -- what passes the last check is a feeder of the kind that yields the table
 module _ {T : Table} {E : Entries} (A : Natural T E) where
@@ -71,9 +72,14 @@ module _ {T : Table} {E : Entries} (A : Natural T E) where
   kind_passes Complete G k Y = (k.0 ∙ A.metered, to_yielded A G k.1 Y)
   kind_passes Reduced G k Y = (λ n h. to_inverter A (k.1 n (h.0, omega (arith, h.1, A.metered))), to_yielded A G k.2 Y)
 
-module _ (K : Kind) (T : Table) (E : Entries) (R : Reads T E) (s : Seating) (S : Seated E s) (m : Map) (M : MapSeated E s m) where
-  pub drawn_map : Passes K E (lines_of m) → DrawnMap K T m
+module _ (K : Kind) (T : Table) (E : Entries) (R : Reads T E) (s : List Seat) (S : Seated E s) (m : Map) (M : MapSeated E s m) where
+  drawn_map : Passes K E (lines_of m) → DrawnMap K T m
   drawn_map p = let t = passes_kind R.natural K (lines_of m) p in (M.metered ∙ sym R.natural.metered, answered R.natural S.metering S.listing (lines_of m) M.count M.wiring S.whole K t.0 t.1)
 
-  pub failed_none : (Passes K E (lines_of m) → ⊥) → NoFeeder K T
+  failed_none : (Passes K E (lines_of m) → ⊥) → NoFeeder K T
   failed_none z = refused R.natural S.metering S.listing (lines_of m) M.count M.wiring S.whole K (λ k Y. z (kind_passes R.natural K (lines_of m) k Y))
+
+  -- what the last check decides
+  pub checked : (b : Bool) → Decides b (Passes K E (lines_of m)) → MatchOption (then_some b m) (Within T → NoFeeder K T) (λ m. DrawnMap K T m)
+  checked true d = drawn_map (d.0 refl)
+  checked false d = λ _. failed_none (λ p. false≢true (d.1 p))

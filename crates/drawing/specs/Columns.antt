@@ -1,11 +1,11 @@
 -- Columns as a table.
-use Rattle.std.specs.Prelude.{ℕ, ◌-◌, ◌≤◌, false, ◌⊎◌, [], ℤ, pos, ◌<ℤ◌, slice_index_or}
+use Rattle.std.specs.Prelude.{ℕ, ◌-◌, ◌≤◌, ◌⊎◌, [], ℤ, pos, ◌<ℤ◌, None, is_some, unwrap_or, slice_index_or}
 use Rattle.feeder.specs.Table.{Table, Metered, Inverter}
 use Rattle.drawing.specs.declared.columns.Columns.{Columns}
 
--- bus m's inverter is at place m - 1, and its column too; bus n's entry is at place n - 1 of the column
+-- inverter m's column is at place m - 1, where bus m has an inverter; bus n's entry is at place n - 1 of the column
 unfoldable pub table_of : Columns → Table
-table_of c = record { metered = c.buses; has = λ m. slice_index_or c.has (m - 1) false; entry = λ n m. slice_index_or (slice_index_or c.entries (m - 1) []) (n - 1) (pos 0) }
+table_of c = record { metered = c.buses; has = λ m. is_some (slice_index_or c.columns (m - 1) None); entry = λ n m. slice_index_or (unwrap_or (slice_index_or c.columns (m - 1) None) []) (n - 1) (pos 0) }
 
 -- no feeder has such a response, or it is farther than a map reaches
 abbrev pub Wrong : ℤ → Type 0

@@ -1,9 +1,9 @@
 -- The seats of buses in places: bus b's at place b.
-use Rattle.std.specs.Prelude.{◌≡◌, ℕ, ◌<◌, ◌≤◌, ◌⊎◌, List, length, ◌≢◌, slice_index_or}
+use Rattle.std.specs.Prelude.{◌≡◌, ℕ, ◌+◌, ◌<◌, ◌≤◌, ◌⊎◌, List, length, ◌≢◌, slice_index_or}
 use Rattle.drawing.specs.declared.seat.Seat.{Seat}
 use Rattle.drawing.specs.Seats.{Entries, Meter, Inverter, Metering, Branch}
 
--- the seat of the substation, and of places that no bus uses
+-- the seat of the substation
 abbrev pub start : Seat
 start = record { inverter = 0; distance = 0 }
 
@@ -27,9 +27,9 @@ pub record SeatsRow (E : Entries) (n : ℕ) (s : Seat) : Type 0 where
   pub positive : 0 < s.distance
   pub lowest : (m : ℕ) → Inverter E m → m < s.inverter → E.entry n m < s.distance
 
--- the metered buses sit in their places
+-- the substation and the metered buses sit in their places
 pub record MeteredSeats (E : Entries) (s : List Seat) : Type 0 where
-  pub places : length s ≡ 128
+  pub places : length s ≡ E.metered + 1
   pub substation : far_of s 0 ≡ 0
   pub metering : Metering E (seat_of s) (far_of s)
 
@@ -59,6 +59,13 @@ Later s m v = (s.inverter < m) ⊎ ((s.inverter ≡ m) × (s.distance < v))
 -- no branch comes behind the seat
 abbrev pub NoSeatAfter : Entries → List Seat → Seat → Type 0
 NoSeatAfter E s last = (m v : ℕ) → BranchAt E s m v → Later last m v → ⊥
+
+-- the seat is at the first branch on inverter m's way that comes behind another
+pub record SeatOn (E : Entries) (s : List Seat) (last : Seat) (m : ℕ) (next : Seat) : Type 0 where
+  pub inverter : next.inverter ≡ m
+  pub later : Later last m next.distance
+  pub branch : BranchAt E s m next.distance
+  pub first : (v : ℕ) → BranchAt E s m v → Later last m v → next.distance ≤ v
 
 -- the first branch behind a seat
 pub record SeatAfter (E : Entries) (s : List Seat) (last next : Seat) : Type 0 where

@@ -1,5 +1,5 @@
 // Drawings of a campaign.
-ghost use Rattle.std.specs.Prelude.{◌≡◌, ℕ, ◌+◌, ◌<◌, true, false, not, ◌&&◌, [], length, pos, slice_index_or};
+ghost use Rattle.std.specs.Prelude.{◌≡◌, ℕ, ◌+◌, ◌<◌, true, not, ◌&&◌, pos, is_some, IfSome, slice_index_or};
 ghost use Rattle.feeder.specs.declared.kind.Kind.TheVariants.{Reduced};
 ghost use Rattle.feeder.specs.Table.{AnswersAreAlone};
 ghost use Rattle.campaign.specs.Columns.{has_inverter, present, entry};
@@ -10,52 +10,24 @@ use crate::columns::Columns;
 use crate::drawing::draw;
 use campaign::{Campaign, DrawingFault};
 use feeder::{Kind, Map};
+use std::array;
 
-// Which of the 64 buses have inverters.
-fn inverters_of(campaign: &Campaign) -> [bool; 64]
-    ensures long { length result ≡ 64 }
-    ensures each { (k : ℕ) → k < 64 → slice_index_or result k false ≡ has_inverter campaign.now (k + 1) }
+// The column of an inverter, with 0 for each response where it was not collected; none where the bus has no inverter.
+fn column_of(campaign: &Campaign, inverter: usize) -> Option<[i64; 64]>
+    ensures has { is_some result ≡ has_inverter campaign.now inverter }
+    ensures entries { present campaign.now inverter ≡ true → IfSome result (λ c. (k : ℕ) → k < 64 → slice_index_or c k (pos 0) ≡ entry campaign.now (k + 1) inverter) }
 {
-    let mut has = [false; 64];
-    for i in 0..64 {
-        has[i] = campaign.has_inverter(i + 1);
-    }
-    has
-}
-
-// The entries of one column, 0 where it is missing.
-fn column_of(campaign: &Campaign, inverter: usize) -> [i64; 64]
-    ensures long { length result ≡ 64 }
-    ensures each { present campaign.now inverter ≡ true → (k : ℕ) → k < 64 → slice_index_or result k (pos 0) ≡ entry campaign.now (k + 1) inverter }
-{
-    let mut entries = [0; 64];
-    for i in 0..64 {
-        entries[i] = campaign.response(i + 1, inverter).unwrap_or(0);
-    }
-    entries
-}
-
-// The entries of all columns.
-fn entries_of(campaign: &Campaign) -> [[i64; 64]; 64]
-    ensures { (n m : ℕ) → n < 64 → m < 64 → present campaign.now (m + 1) ≡ true → slice_index_or (slice_index_or result m []) n (pos 0) ≡ entry campaign.now (n + 1) (m + 1) }
-{
-    let mut entries = [[0; 64]; 64];
-    for i in 0..64 {
-        entries[i] = column_of(campaign, i + 1);
-    }
-    entries
+    let entries = array::from_fn(|i| campaign.response(i + 1, inverter).unwrap_or(0));
+    campaign.has_inverter(inverter).then_some(entries)
 }
 
 // The columns of a campaign.
 fn columns_of(campaign: &Campaign) -> Columns
     ensures { Copy campaign.now result }
 {
-    let has = inverters_of(campaign);
-    let entries = entries_of(campaign);
     Columns {
         buses: campaign.buses(),
-        has,
-        entries,
+        columns: array::from_fn(|i| column_of(campaign, i + 1)),
     }
 }
 
@@ -70,24 +42,14 @@ fn lacks_column(campaign: &Campaign, bus: usize) -> bool
 fn missing_column(campaign: &Campaign) -> Option<usize>
     ensures { result ≡ missing campaign.now }
 {
-    for i in 0..campaign.buses() {
-        if lacks_column(campaign, i + 1) {
-            return Some(i + 1);
-        }
-    }
-    None
+    (1..=campaign.buses()).find(|&bus| lacks_column(campaign, bus))
 }
 
 // The lowest metered bus without an inverter.
 fn lowest_bare(campaign: &Campaign) -> Option<usize>
     ensures { result ≡ bare Reduced campaign.now }
 {
-    for i in 0..campaign.buses() {
-        if !campaign.has_inverter(i + 1) {
-            return Some(i + 1);
-        }
-    }
-    None
+    (1..=campaign.buses()).find(|&bus| !campaign.has_inverter(bus))
 }
 
 // The same, where the kind wants an inverter at each metered bus.
@@ -116,11 +78,7 @@ pub fn draw_campaign(campaign: &Campaign, kind: Kind, place: &mut Map) -> Result
     if campaign.buses() > 64 {
         return Err(DrawingFault::NoFeeder);
     }
-    match draw(kind, &columns_of(campaign)) {
-        Some(map) => {
-            *place = map;
-            Ok(())
-        }
-        None => Err(DrawingFault::NoFeeder),
-    }
+    let map = draw(kind, &columns_of(campaign)).ok_or(DrawingFault::NoFeeder)?;
+    *place = map;
+    Ok(())
 }

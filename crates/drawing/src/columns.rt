@@ -1,10 +1,8 @@
-// What a drawing starts from: a column of responses for each inverter.
-#[derive(Drop)]
+// What a drawing starts from: a column of responses for each inverter. Its places are fixed, since nothing is allocated here.
+#[derive(PartialEq, Eq, Debug, Drop)]
 pub struct Columns {
     /// The metered buses are 1 to this.
     pub buses: usize,
-    /// Whether bus m has an inverter, at place m - 1.
-    pub has: [bool; 64],
-    /// The response of bus n to inverter m, at place n - 1 of column m - 1.
-    pub entries: [[i64; 64]; 64],
+    /// Inverter m's column at place m - 1, with the response of bus n to it at place n - 1. None where bus m has no inverter.
+    pub columns: [Option<[i64; 64]>; 64],
 }

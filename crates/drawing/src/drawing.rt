@@ -1,16 +1,16 @@
 // The drawing of a feeder from columns of responses: seats, lines, and a last check of the whole map.
-ghost use Rattle.std.specs.Prelude.{◌<◌, MatchOption};
+ghost use Rattle.std.specs.Prelude.{MatchOption};
 ghost use Rattle.feeder.specs.Table.{NoFeeder};
 ghost use Rattle.feeder.specs.View.{DrawnMap};
 ghost use Rattle.drawing.specs.Columns.{table_of, Within};
 ghost use Rattle.drawing.specs.Responses.{entries_of, Near};
 ghost use Rattle.drawing.specs.Seating.{Seated, Unseated, MapSeated};
 
-use crate::checks::passes;
+use crate::checks::Check;
 use crate::columns::Columns;
 use crate::responses::{Responses, read_columns};
-use crate::seats::{Seating, all_seats, metered_seats};
-use crate::wiring::wires;
+use crate::seats::{Metered, Seats, metered_seats};
+use crate::wiring::Seating;
 use feeder::{Kind, Map};
 
 /// The feeder of the kind that yields the columns, with the fewest buses.
@@ -19,32 +19,39 @@ pub fn draw(kind: Kind, columns: &Columns) -> Option<Map>
     ensures { MatchOption result (Within (table_of columns.now) → NoFeeder kind (table_of columns.now)) (λ map. DrawnMap kind (table_of columns.now) map) }
 {
     let responses = read_columns(columns)?;
-    let seating = seats(&responses)?;
-    let map = wired_map(&responses, &seating);
-    if passes(kind, &responses, &map) {
-        Some(map)
-    } else {
-        None
-    }
+    let seats = seats(&responses)?;
+    let map = wired_map(&Seating {
+        responses: &responses,
+        seats: &seats,
+    });
+    let check = Check {
+        responses: &responses,
+        map: &map,
+    };
+    let passes = check.passes(kind);
+    passes.then_some(map)
 }
 
 // The seats of all buses.
-fn seats(responses: &Responses) -> Option<Seating>
-    ensures { MatchOption result (Unseated (entries_of responses.now)) (λ s. Seated (entries_of responses.now) s) }
+fn seats(responses: &Responses) -> Option<Seats>
+    ensures { MatchOption result (Unseated (entries_of responses.now)) (λ s. Seated (entries_of responses.now) s.items) }
 {
-    let metered = metered_seats(responses)?;
-    all_seats(responses, &metered)
+    let seats = metered_seats(responses)?;
+    let metered = Metered {
+        responses,
+        seats: &seats,
+    };
+    metered.all_seats()
 }
 
 // The map of the seats' lines. These are always a feeder, and no farther than a map reaches.
-fn wired_map(responses: &Responses, seating: &Seating) -> Map
-    requires some { 0 < (entries_of responses.now).metered }
-    requires near { Near (entries_of responses.now) }
-    requires seated { Seated (entries_of responses.now) seating.now }
-    ensures { MapSeated (entries_of responses.now) seating.now result }
+fn wired_map(seating: &Seating) -> Map
+    requires near { Near (entries_of seating.now.responses.now) }
+    requires seated { Seated (entries_of seating.now.responses.now) seating.now.seats.now }
+    ensures { MapSeated (entries_of seating.now.responses.now) seating.now.seats.now result }
 {
-    let lines = wires(responses, seating);
-    match Map::from_lines(responses.buses(), &lines[0..seating.count]) {
+    let lines = seating.wires();
+    match Map::from_lines(seating.responses.buses(), &lines) {
         Ok(map) => map,
         Err(_) => unreachable(),
     }

@@ -1,16 +1,16 @@
 // The responses of the metered buses to the inverters, none of them negative.
-ghost use Rattle.std.specs.Prelude.{◌≤◌};
+ghost use Rattle.std.specs.Prelude.{◌<◌, ◌≤◌};
 
 mod questions;
 mod reading;
 
 pub(crate) use reading::read_columns;
 
-// Bus n's response to inverter m is at place n - 1 of column m - 1.
-#[derive(Drop)]
-pub struct Responses {
+// Inverter m's column is at place m - 1, with bus n's response at place n - 1. The places are fixed: nothing is allocated here.
+#[derive(PartialEq, Eq, Debug, Drop)]
+pub(crate) struct Responses {
     buses: usize,
-    has: [bool; 64],
-    entries: [[u32; 64]; 64],
+    columns: [Option<[u32; 64]>; 64],
+    ghost some: { 0 < buses },
     ghost counted: { buses ≤ 64 },
 }

@@ -1,6 +1,6 @@
 // A seat: a distance on the way of an inverter. The substation's is at distance 0 of none.
-#[derive(Clone, Copy)]
-pub struct Seat {
-    pub inverter: usize,
-    pub distance: u32,
+#[derive(Clone, Copy, PartialEq, Eq, Debug, Default)]
+pub(crate) struct Seat {
+    pub(crate) inverter: usize,
+    pub(crate) distance: u32,
 }

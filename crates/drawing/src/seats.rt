@@ -1,15 +1,15 @@
 // Where the buses of a drawing sit: the metered ones, then the unmetered ones.
 use crate::seat::Seat;
+use arrayvec::ArrayVec;
 
 mod branches;
 mod metered;
 
-pub(crate) use branches::all_seats;
+pub(crate) use branches::Metered;
 pub(crate) use metered::metered_seats;
 
-// Bus b's seat is at place b. The buses are 1 to count.
-#[derive(Drop)]
-pub struct Seating {
-    pub count: usize,
-    pub seats: [Seat; 128],
-}
+// A place for the substation, and one for each bus of a map.
+const PLACES: usize = 128;
+
+// Bus b's seat is at place b, and the substation's at place 0.
+pub(crate) type Seats = ArrayVec<Seat, PLACES>;

@@ -4,7 +4,6 @@ pub mod Distances
 pub mod Inverters
 pub mod Feeders
 pub mod Maps
-pub mod Blanks
 pub mod Laws
 pub mod Reach
 pub mod Tables

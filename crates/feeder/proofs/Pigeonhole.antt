@@ -1,68 +1,42 @@
 -- The pigeonhole: a list without repeats of numbers 1 to B has at most B elements, and with B elements it has them all.
-use Rattle.std.proofs.Common.{◌≡◌, ℕ, zero, suc, ◌<◌, ◌≤◌, true, false, cond, eqb, ◌⊎◌, List, [], ◌∷◌, length, sym, refl, ap, inl, inr, ⊎_elim, arith}
+use Rattle.std.proofs.Common.{◌≡◌, ℕ, zero, suc, ◌<◌, ◌≤◌, true, false, eqb, ◌⊎◌, List, [], ◌∷◌, length, sym, refl, ap, inl, inr, ⊎_elim, arith}
 use Rattle.std.proofs.lemmas.Bool.{cases_eq, cases_Bool, eq-eqb, ne_eqb, both_ways}
+use Rattle.std.proofs.lemmas.Map.Steps.{length-le_from_distinct_below}
+use Rattle.std.specs.List.{list_any, AllByRecursion, IsDistinct}
 use Rattle.feeder.specs.Way.{is_in, NoRepeats}
 
 -- each number of the list is one of 1 to B
 abbrev pub Within : ℕ → List ℕ → Type 0
 Within B xs = (c : ℕ) → is_in xs c ≡ true → (0 < c) × (c ≤ B)
 
--- the list with b taken out
-without : ℕ → List ℕ → List ℕ
-without b [] = []
-without b (x ∷ xs) = cond (eqb x b) xs (x ∷ without b xs)
-
 -- a test of membership in a list of one more, by cases
 pub in_cons : (x : ℕ) (xs : List ℕ) (c : ℕ) → is_in (x ∷ xs) c ≡ true → (c ≡ x) ⊎ (is_in xs c ≡ true)
 in_cons x xs c e = ⊎_elim inl (λ z. inr (rw (ne_eqb c x z) at e)) (cases_eq c x)
 
-pub in_here : (x : ℕ) (xs : List ℕ) → is_in (x ∷ xs) x ≡ true
-in_here x xs = rw (eq-eqb x x refl)
+-- what std's test of membership finds is there
+any_in : (xs : List ℕ) (c : ℕ) → list_any (eqb c) xs ≡ true → is_in xs c ≡ true
+any_in [] c e = e
+any_in (x ∷ xs) c e = ⊎_elim (λ q. rw (eq-eqb c x q)) (λ z. rw (ne_eqb c x z) (any_in xs c (rw (ne_eqb c x z) at e))) (cases_eq c x)
 
-pub in_there : (x : ℕ) (xs : List ℕ) (c : ℕ) → is_in xs c ≡ true → is_in (x ∷ xs) c ≡ true
-in_there x xs c e = ⊎_elim (λ q. rw (eq-eqb c x q)) (λ z. rw (ne_eqb c x z) e) (cases_eq c x)
+apart : (x : ℕ) (xs : List ℕ) → is_in xs x ≡ false → AllByRecursion (λ y. eqb x y ≡ false) xs
+apart x [] e = tt
+apart x (y ∷ ys) e = ⊎_elim (λ q. absurd (both_ways true (rw (eq-eqb x y q) at e) refl)) (λ z. (ne_eqb x y z, apart x ys (rw (ne_eqb x y z) at e))) (cases_eq x y)
 
-module _ (b : ℕ) where
-  without_length : (xs : List ℕ) → length xs ≤ suc (length (without b xs))
-  unfolding without
-  without_length [] = omega arith
-  without_length (x ∷ xs) = ⊎_elim (λ q. rw (eq-eqb x b q) (omega arith)) (λ z. rw (ne_eqb x b z) (omega (arith, without_length xs))) (cases_eq x b)
+-- a list without repeats is distinct in std's sense
+distinct : (xs : List ℕ) → NoRepeats xs → IsDistinct eqb xs
+unfolding IsDistinct
+distinct [] n = tt
+distinct (x ∷ xs) n = (apart x xs n.0, distinct xs n.1)
 
-  without_in : (xs : List ℕ) (c : ℕ) → is_in (without b xs) c ≡ true → is_in xs c ≡ true
-  unfolding without
-  without_in [] c e = e
-  without_in (x ∷ xs) c e = go (λ u. without_in xs c u) (cases_eq x b)
-    where
-      go : (is_in (without b xs) c ≡ true → is_in xs c ≡ true) → (x ≡ b) ⊎ (x ≡ b → ⊥) → is_in (x ∷ xs) c ≡ true
-      go ih (inl q) = in_there x xs c (rw (eq-eqb x b q) at e)
-      go ih (inr z) = ⊎_elim (λ q. rw (eq-eqb c x q)) (λ u. in_there x xs c (ih u)) (in_cons x (without b xs) c (rw (ne_eqb x b z) at e))
-
-  without_not : (xs : List ℕ) → NoRepeats xs → is_in (without b xs) b ≡ true → ⊥
-  unfolding without
-  without_not [] n e = both_ways false refl e
-  without_not (x ∷ xs) n e = go (without_not xs n.1) (cases_eq x b)
-    where
-      go : (is_in (without b xs) b ≡ true → ⊥) → (x ≡ b) ⊎ (x ≡ b → ⊥) → ⊥
-      go ih (inl q) = both_ways (is_in xs b) (rw q at n.0) (rw (eq-eqb x b q) at e)
-      go ih (inr z) = ⊎_elim (λ q. z (sym q)) ih (in_cons x (without b xs) b (rw (ne_eqb x b z) at e))
-
-  without_none : (xs : List ℕ) → NoRepeats xs → NoRepeats (without b xs)
-  unfolding without
-  without_none [] n = n
-  without_none (x ∷ xs) n = ⊎_elim (λ q. rw (eq-eqb x b q) n.1) (λ z. rw (ne_eqb x b z) (not_there (cases_Bool (is_in (without b xs) x)), without_none xs n.1)) (cases_eq x b)
-    where
-      not_there : (is_in (without b xs) x ≡ true) ⊎ (is_in (without b xs) x ≡ false) → is_in (without b xs) x ≡ false
-      not_there (inl e) = absurd (both_ways (is_in xs x) n.0 (without_in xs x e))
-      not_there (inr e) = e
-
--- at most as many as there are numbers
+-- at most as many as there are numbers: with 0 before it, the list has numbers below B + 1
 pub at_most : (B : ℕ) (xs : List ℕ) → NoRepeats xs → Within B xs → length xs ≤ B
-at_most zero [] n h = omega arith
-at_most zero (x ∷ xs) n h = absurd (omega (arith, h x (in_here x xs)))
-at_most (suc B) xs n h = omega (arith, without_length (suc B) xs, at_most B (without (suc B) xs) (without_none (suc B) xs n) fewer)
+at_most B xs n h = omega (arith, length-le_from_distinct_below (0 ∷ xs) (suc B) (distinct (0 ∷ xs) (no_zero, n)) below)
   where
-    fewer : Within B (without (suc B) xs)
-    fewer c e = let k = h c (without_in (suc B) xs c e) in ⊎_elim (λ q. absurd (without_not (suc B) xs n (rw q at e))) (λ z. omega arith) (cases_eq c (suc B))
+    no_zero : is_in xs 0 ≡ false
+    no_zero = ⊎_elim (λ e. absurd (omega (arith, h 0 e))) (λ e. e) (cases_Bool (is_in xs 0))
+
+    below : (c : ℕ) → list_any (eqb c) (0 ∷ xs) ≡ true → c < suc B
+    below c e = ⊎_elim (λ q. omega arith) (λ u. omega (arith, h c u)) (in_cons 0 xs c (any_in (0 ∷ xs) c e))
 
 -- as many as there are numbers: each is there
 pub has_all : (B : ℕ) (xs : List ℕ) → NoRepeats xs → Within B xs → B ≤ length xs → (c : ℕ) → 0 < c → c ≤ B → is_in xs c ≡ true

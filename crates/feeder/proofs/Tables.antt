@@ -1,52 +1,29 @@
--- A table of distances that is filled bus by bus, and a row of lines that is filled place by place.
-use Rattle.std.proofs.Common.{◌≡◌, ℕ, suc, ◌+◌, ◌-◌, ◌<◌, ◌≤◌, ◌≢◌, List, [], ◌∷◌, ◌++◌, length, get_or, take, set, replicate, sym, ap, ◌∙◌, subst, ⊎_elim, arith}
-use Rattle.std.proofs.lemmas.List.{get_or-set_same, get_or-set_other, length-set, set_at, length-take-le, take_more, take_all, append_assoc}
+-- A table of distances that is filled bus by bus.
+use Rattle.std.proofs.Common.{◌≡◌, ℕ, ◌+◌, ◌<◌, ◌≤◌, List, [], ◌∷◌, ◌++◌, length, get_or, sym, ◌∙◌, subst, ⊎_elim, below_more, arith}
+use Rattle.std.proofs.lemmas.List.{get_or_append_left, get_or_push, length_push}
 use Rattle.std.proofs.lemmas.Bool.{cases_eq}
 use Rattle.feeder.specs.declared.line.Line.{Line}
-use Rattle.feeder.specs.Feeder.{blank, Bus}
 use Rattle.feeder.specs.Build.{Reaches, IsBeyond, Lowest, Tabled}
-use Rattle.feeder.proofs.Blanks.{get_or_row}
+use Rattle.feeder.proofs.Reach.{reaches_top, reaches_unique}
 
--- the buses below `to` have their distances in the table
+-- the table has the distances of the substation and of the buses below `to`, and ends there
 pub record TabledTo (F : List Line) (to : ℕ) (distances : List ℕ) : Type 0 where
-  pub within : to ≤ length F + 1
-  pub places : length distances ≡ 128
-  pub start : get_or distances 0 0 ≡ 0
-  pub buses : (b : ℕ) → 0 < b → b < to → Reaches F b (get_or distances b 0)
-  pub near : (b : ℕ) → 0 < b → b < to → get_or distances b 0 ≤ 1000000
-  pub behind : (b : ℕ) → to ≤ b → get_or distances b 0 ≡ 0
+  pub places : length distances ≡ to
+  pub reach : (b : ℕ) → b < to → Reaches F b (get_or distances b 0)
+  pub near : (b : ℕ) → b < to → get_or distances b 0 ≤ 1000000
 
-pub tabled_none : (F : List Line) (ds : List ℕ) → ds ≡ replicate 128 0 → TabledTo F 1 ds
-tabled_none F ds e = record { within = omega arith; places = ap length e; start = row 0; buses = λ b h l. absurd (omega arith); near = λ b h l. absurd (omega arith); behind = λ b h. row b }
+pub tabled_none : (F : List Line) → TabledTo F 0 []
+tabled_none F = record { places = omega arith; reach = λ b l. absurd (omega arith); near = λ b l. absurd (omega arith) }
+
+pub tabled_more : (F : List Line) (to d : ℕ) (ds : List ℕ) → TabledTo F to ds → (d ≤ 1000000) × Reaches F to d → TabledTo F (to + 1) (ds ++ d ∷ [])
+tabled_more F to d ds k (n, x) = record { places = omega (arith, length_push ds d, k.places); reach = grown (Reaches F) x k.reach; near = grown (λ b t. t ≤ 1000000) n k.near }
   where
-    row : (b : ℕ) → get_or ds b 0 ≡ 0
-    row b = ap (λ t. get_or t b 0) e ∙ get_or_row 128 b 0
+    grown : (P : ℕ → ℕ → Type 0) → P to d → ((b : ℕ) → b < to → P b (get_or ds b 0)) → (b : ℕ) → b < to + 1 → P b (get_or (ds ++ d ∷ []) b 0)
+    grown P here below = below_more _ _ (λ b l. subst (P b) (sym (get_or_append_left ds (d ∷ []) 0 b (omega (arith, k.places)))) (below b l)) (subst (P to) (sym (get_or_push ds d 0 to k.places)) here)
 
-pub tabled_more : (F : List Line) (to d : ℕ) (ds : List ℕ) → TabledTo F to ds → Bus F to → length F ≤ 127 → Reaches F to d → d ≤ 1000000 → TabledTo F (to + 1) (set ds to d)
-tabled_more F to d ds k h l x n = record { within = omega (arith, h.1); places = length-set ds to d ∙ k.places; start = other 0 (λ e. omega (arith, h.0)) ∙ k.start; buses = λ b a z. by_case (Reaches F b) b z (λ e. subst (λ t. Reaches F t d) (sym e) x) (λ u. k.buses b a u); near = λ b a z. by_case (λ t. t ≤ 1000000) b z (λ e. n) (λ u. k.near b a u); behind = λ b z. other b (λ e. omega arith) ∙ k.behind b (omega arith) }
-  where
-    other : (b : ℕ) → b ≢ to → get_or (set ds to d) b 0 ≡ get_or ds b 0
-    other b z = get_or-set_other ds to b d 0 z
+pub tabled_all : (F : List Line) (to : ℕ) (ds : List ℕ) → to ≡ length F + 1 → TabledTo F to ds → Tabled F ds
+tabled_all F to ds e k = record { places = k.places ∙ e; start = reaches_unique F 0 (get_or ds 0 0) 0 (k.reach 0 (omega arith)) (reaches_top F); buses = λ b h. k.reach b (omega (arith, h.1)); near = λ b h. k.near b (omega (arith, h.1)) }
 
-    same : get_or (set ds to d) to 0 ≡ d
-    same = get_or-set_same ds to d 0 (omega (arith, k.places, h.1))
-
-    by_case : (P : ℕ → Type 0) (b : ℕ) → b < to + 1 → (b ≡ to → P d) → (b < to → P (get_or ds b 0)) → P (get_or (set ds to d) b 0)
-    by_case P b z f g = ⊎_elim (λ e. subst P (sym (ap (λ t. get_or (set ds to d) t 0) e ∙ same)) (f e)) (λ u. subst P (sym (other b u)) (g (omega arith))) (cases_eq b to)
-
-pub tabled_all : (F : List Line) (to : ℕ) (ds : List ℕ) → length F < to → TabledTo F to ds → Tabled F ds
-tabled_all F to ds l k = record { places = k.places; start = k.start; buses = λ b h. k.buses b h.0 (omega (arith, h.1)); near = λ b h. k.near b h.0 (omega (arith, h.1)); behind = λ b h. k.behind b (omega (arith, k.within)) }
-
--- one more line at the front of the row
-pub placed_more : (xs ps : List Line) (i : ℕ) (d : Line) → i < length xs → length xs ≤ 127 → ps ≡ take i xs ++ replicate (127 - i) blank → set ps i (get_or xs i d) ≡ take (i + 1) xs ++ replicate (127 - (i + 1)) blank
-placed_more xs ps i d h l e = ap (λ t. set t i (get_or xs i d)) (e ∙ ap (λ k. take i xs ++ replicate k blank) rest) ∙ set_at (take i xs) blank (replicate (127 - (i + 1)) blank) (get_or xs i d) i (length-take-le i xs (omega arith)) ∙ sym (ap (λ t. t ++ replicate (127 - (i + 1)) blank) (take_more xs i d h) ∙ append_assoc (take i xs) (get_or xs i d ∷ []) (replicate (127 - (i + 1)) blank))
-  where
-    rest : 127 - i ≡ suc (127 - (i + 1))
-    rest = omega arith
-
-pub placed_all : (xs ps : List Line) (i : ℕ) → length xs ≤ i → i ≤ length xs → ps ≡ take i xs ++ replicate (127 - i) blank → ps ≡ xs ++ replicate (127 - length xs) blank
-placed_all xs ps i h l e = let k : i ≡ length xs = omega arith in e ∙ ap (λ t. take t xs ++ replicate (127 - t) blank) k ∙ ap (λ t. t ++ replicate (127 - length xs) blank) (take_all (length xs) xs (omega arith))
-
--- a bus that lies beyond, where those before it have their distances, is the lowest
-pub lowest_beyond : (F : List Line) (b : ℕ) (ds : List ℕ) → TabledTo F b ds → Bus F b → IsBeyond F b → Lowest F (IsBeyond F) b
-lowest_beyond F b ds k h far = (h, far, λ c a l z. z (get_or ds c 0) (k.buses c a l) (k.near c a l))
+-- where the buses before it have their distances, one that lies beyond is the lowest
+pub lowest_beyond : (F : List Line) (b : ℕ) (ds : List ℕ) → TabledTo F b ds → b ≤ length F → IsBeyond F b → Lowest F (IsBeyond F) b
+lowest_beyond F b ds k l far = ((⊎_elim (λ e. absurd (subst (IsBeyond F) e far 0 (reaches_top F) (omega arith))) (λ z. omega arith) (cases_eq b 0), l), far, λ c a m z. z (get_or ds c 0) (k.reach c m) (k.near c m))

@@ -1,5 +1,5 @@
 -- When a list of lines makes a map, and which fault it has otherwise.
-use Rattle.std.specs.Prelude.{◌≡◌, ℕ, ◌<◌, ◌≤◌, ◌⊎◌, List, length, sum_by, slice_index, slice_index_or}
+use Rattle.std.specs.Prelude.{◌≡◌, ℕ, ◌+◌, ◌<◌, ◌≤◌, ◌⊎◌, List, length, sum_by, slice_index, slice_index_or}
 use Rattle.feeder.specs.declared.line.Line.{Line}
 use Rattle.feeder.specs.declared.fault.Fault.{Fault}
 use Rattle.feeder.specs.declared.fault.Fault.TheVariants.{TooMany, Overmetered, Flawed, Beyond}
@@ -14,13 +14,12 @@ Reaches F b d = (w : List ℕ) × Way (parent_of F) b w × (sum_by (resistance_o
 abbrev pub IsBeyond : List Line → ℕ → Type 0
 IsBeyond F b = (d : ℕ) → Reaches F b d → d ≤ 1000000 → ⊥
 
--- the list has the substation's distance, 0, then each bus's, at most 1,000,000, and 0 at the places behind
+-- the list has the substation's distance, 0, then each bus's, at most 1,000,000, and ends there
 pub record Tabled (F : List Line) (distances : List ℕ) : Type 0 where
-  pub places : length distances ≡ 128
+  pub places : length distances ≡ length F + 1
   pub start : slice_index_or distances 0 0 ≡ 0
   pub buses : (b : ℕ) → Bus F b → Reaches F b (slice_index distances b)
   pub near : (b : ℕ) → Bus F b → slice_index distances b ≤ 1000000
-  pub behind : (b : ℕ) → length F < b → slice_index distances b ≡ 0
 
 -- the parent of bus b is neither a bus nor the substation, or its line has no resistance
 abbrev pub IsFlawed : List Line → ℕ → Type 0

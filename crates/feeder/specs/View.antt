@@ -1,5 +1,5 @@
 -- What a map says: its feeder's lines, and how many buses are metered.
-use Rattle.std.specs.Prelude.{◌≡◌, ℕ, ◌<◌, ◌≤◌, Bool, true, cond, ◌&&◌, List, length, take, Some, None, Option, nat_le, nat_lt}
+use Rattle.std.specs.Prelude.{◌≡◌, ℕ, ◌<◌, ◌≤◌, Bool, true, cond, ◌&&◌, List, length, Some, None, Option, nat_le, nat_lt}
 use Rattle.feeder.specs.declared.line.Line.{Line}
 use Rattle.feeder.specs.declared.kind.Kind.{Kind}
 use Rattle.feeder.specs.declared.map.Map.{Map}
@@ -8,7 +8,7 @@ use Rattle.feeder.specs.Table.{Table, Drawn}
 
 -- the lines of the map's buses, bus 1 first
 abbrev pub lines_of : Map → List Line
-lines_of m = take m.buses m.lines
+lines_of m = m.lines.items
 
 -- the buses 1 to this are metered
 abbrev pub metered_of : Map → ℕ

@@ -1,11 +1,12 @@
 // The map of a feeder: how many buses are metered, and each bus's line and distance.
-ghost use Rattle.feeder.specs.Sound.{Counted, Placed, Wired, Started, Near, Measured, Blank};
+ghost use Rattle.feeder.specs.Sound.{Counted, Placed, Wired, Started, Near, Measured};
 
 use crate::line::Line;
+use arrayvec::ArrayVec;
 
-mod blank;
 mod build;
 mod counts;
+mod empty;
 mod ends;
 mod questions;
 mod response;
@@ -14,20 +15,19 @@ mod response;
 pub const MOST_BUSES: usize = 127;
 
 // A distance for the substation, and one for each bus.
-const PLACES: usize = 128;
+const PLACES: usize = MOST_BUSES + 1;
 
 // Bus b has its line at place b - 1 and its distance at place b.
+// `Map::lines` lends the lines alone as one slice, so no distance stands beside its line.
 #[derive(Drop)]
 pub struct Map {
     metered: usize,
-    buses: usize,
-    lines: [Line; MOST_BUSES],
-    distances: [u32; PLACES],
-    ghost counted: { Counted metered buses },
-    ghost placed: { Placed lines distances },
-    ghost wired: { Wired buses lines },
-    ghost started: { Started distances },
-    ghost near: { Near buses distances },
-    ghost measured: { Measured buses lines distances },
-    ghost blank: { Blank buses lines distances },
+    lines: ArrayVec<Line, MOST_BUSES>,
+    distances: ArrayVec<u32, PLACES>,
+    ghost counted: { Counted metered lines.items },
+    ghost placed: { Placed lines.items distances.items },
+    ghost wired: { Wired lines.items },
+    ghost started: { Started distances.items },
+    ghost near: { Near lines.items distances.items },
+    ghost measured: { Measured lines.items distances.items },
 }

@@ -3,6 +3,8 @@
 #![tactic(auto)]
 
 #[cfg(test)]
+mod line;
+#[cfg(test)]
 mod map_cases;
 #[cfg(test)]
 mod map_files;

@@ -1,27 +1,12 @@
+use crate::line::line;
 use feeder::{Fault, Line, Map};
+use std::array;
 use std::process::Abort;
 use std::test::Fail;
 
-fn line(parent: usize, resistance: u32) -> Line {
-    Line { parent, resistance }
-}
-
-fn drawn(metered: usize, lines: &[Line]) -> Result<Map, Fail> {
-    match Map::from_lines(metered, lines) {
-        Ok(map) => Ok(map),
-        Err(_) => Err(Fail::new("refused")),
-    }
-}
-
 // Whether lines, of which none is metered, make no map, for this reason.
-fn refused(rt: &impl Abort, lines: &[Line], reason: Fault) -> Result<(), Fail> {
-    match Map::from_lines(0, lines) {
-        Ok(_) => Err(Fail::new("accepted")),
-        Err(fault) => {
-            assert_eq!(rt; fault, reason);
-            Ok(())
-        },
-    }
+fn refused(rt: &impl Abort, lines: &[Line], reason: Fault) {
+    assert_eq!(rt; Map::from_lines(0, lines).err(), Some(reason));
 }
 
 // Whether bus n has this response to an inverter at bus m, and the other way round.
@@ -31,8 +16,8 @@ fn respond(rt: &impl Abort, map: &Map, n: usize, m: usize, response: u32) {
 }
 
 // Bus 3 hangs on the substation, and buses 1 and 2 on bus 3.
-fn fork() -> Result<Map, Fail> {
-    drawn(2, &[line(3, 200), line(3, 500), line(0, 300)])
+fn fork() -> Result<Map, Fault> {
+    Map::from_lines(2, &[line(3, 200), line(3, 500), line(0, 300)])
 }
 
 #[test]
@@ -85,8 +70,8 @@ fn ends_of_a_fork(rt: HostRuntime) -> Result<(), Fail> {
 }
 
 // Buses 1 and 6 hang on the substation, 2 and 3 on bus 1, and 4 and 5 on bus 2.
-fn tree() -> Result<Map, Fail> {
-    drawn(
+fn tree() -> Result<Map, Fault> {
+    Map::from_lines(
         6,
         &[
             line(0, 100),
@@ -124,24 +109,11 @@ fn responses_of_a_tree(rt: HostRuntime) -> Result<(), Fail> {
 }
 
 // Every bus hangs on the substation, bus b with resistance 10 b.
-fn star(lines: &mut [Line; 64]) {
-    for i in 0..64 {
-        lines[i] = line(0, (10 * (i + 1)) as u32);
-    }
-}
-
-// Every bus hangs on the one before it, with resistance 10.
-fn chain(lines: &mut [Line; 64]) {
-    for i in 0..64 {
-        lines[i] = line(i, 10);
-    }
-}
-
 #[test]
 fn a_star_of_64(rt: HostRuntime) -> Result<(), Fail> {
-    let mut lines = [line(0, 1); 64];
-    star(&mut lines);
-    let map = drawn(64, &lines[0..64])?;
+    // A place of 64 fits, so try_from would be no plainer.
+    let lines: [Line; 64] = array::from_fn(|i| line(0, 10 * (i as u32 + 1)));
+    let map = Map::from_lines(64, &lines)?;
     assert_eq!(rt; map.distance(64), Some(640));
     respond(&rt, &map, 64, 63, 0);
     respond(&rt, &map, 64, 64, 640);
@@ -150,11 +122,11 @@ fn a_star_of_64(rt: HostRuntime) -> Result<(), Fail> {
     Ok(())
 }
 
+// Every bus hangs on the one before it, with resistance 10.
 #[test]
 fn a_chain_of_64(rt: HostRuntime) -> Result<(), Fail> {
-    let mut lines = [line(0, 1); 64];
-    chain(&mut lines);
-    let map = drawn(64, &lines[0..64])?;
+    let lines: [Line; 64] = array::from_fn(|i| line(i, 10));
+    let map = Map::from_lines(64, &lines)?;
     assert_eq!(rt; map.distance(64), Some(640));
     respond(&rt, &map, 64, 63, 630);
     respond(&rt, &map, 1, 64, 10);
@@ -164,45 +136,45 @@ fn a_chain_of_64(rt: HostRuntime) -> Result<(), Fail> {
 }
 
 #[test]
-fn loops(rt: HostRuntime) -> Result<(), Fail> {
-    refused(&rt, &[line(2, 5), line(1, 5)], Fault::Beyond(1))?;
-    refused(&rt, &[line(0, 5), line(2, 5)], Fault::Beyond(2))?;
-    refused(&rt, &[line(2, 1), line(3, 1), line(1, 1)], Fault::Beyond(1))?;
-    refused(&rt, &[line(0, 1), line(3, 1), line(2, 1)], Fault::Beyond(2))
+fn loops(rt: HostRuntime) {
+    refused(&rt, &[line(2, 5), line(1, 5)], Fault::Beyond(1));
+    refused(&rt, &[line(0, 5), line(2, 5)], Fault::Beyond(2));
+    refused(&rt, &[line(2, 1), line(3, 1), line(1, 1)], Fault::Beyond(1));
+    refused(&rt, &[line(0, 1), line(3, 1), line(2, 1)], Fault::Beyond(2));
 }
 
 #[test]
 fn the_farthest_bus(rt: HostRuntime) -> Result<(), Fail> {
-    let map = drawn(0, &[line(0, 999_999), line(1, 1)])?;
+    let map = Map::from_lines(0, &[line(0, 999_999), line(1, 1)])?;
     assert_eq!(rt; map.distance(2), Some(1_000_000));
-    refused(&rt, &[line(0, 999_999), line(1, 2)], Fault::Beyond(2))?;
-    refused(&rt, &[line(0, 1_000_001)], Fault::Beyond(1))
+    refused(&rt, &[line(0, 999_999), line(1, 2)], Fault::Beyond(2));
+    refused(&rt, &[line(0, 1_000_001)], Fault::Beyond(1));
+    Ok(())
 }
 
 #[test]
-fn flaws(rt: HostRuntime) -> Result<(), Fail> {
-    refused(&rt, &[line(0, 5), line(3, 5)], Fault::Flawed(2))?;
-    refused(&rt, &[line(0, 0), line(0, 0)], Fault::Flawed(1))?;
+fn flaws(rt: HostRuntime) {
+    refused(&rt, &[line(0, 5), line(3, 5)], Fault::Flawed(2));
+    refused(&rt, &[line(0, 0), line(0, 0)], Fault::Flawed(1));
     // A flaw is told before a loop.
-    refused(&rt, &[line(1, 5), line(0, 0)], Fault::Flawed(2))
+    refused(&rt, &[line(1, 5), line(0, 0)], Fault::Flawed(2));
 }
 
 #[test]
 fn more_metered_buses_than_buses(rt: HostRuntime) -> Result<(), Fail> {
-    assert_eq!(rt; drawn(1, &[line(0, 1)])?.metered(), 1);
-    match Map::from_lines(2, &[line(0, 1)]) {
-        Ok(_) => Err(Fail::new("accepted")),
-        Err(fault) => {
-            assert_eq!(rt; fault, Fault::Overmetered);
-            Ok(())
-        },
-    }
+    assert_eq!(rt; Map::from_lines(1, &[line(0, 1)])?.metered(), 1);
+    assert_eq!(rt;
+        Map::from_lines(2, &[line(0, 1)]).err(),
+        Some(Fault::Overmetered)
+    );
+    Ok(())
 }
 
 #[test]
 fn at_most_127_buses(rt: HostRuntime) -> Result<(), Fail> {
-    assert_eq!(rt; drawn(127, &[line(0, 1); 127])?.buses(), 127);
-    refused(&rt, &[line(0, 1); 128], Fault::TooMany)
+    assert_eq!(rt; Map::from_lines(127, &[line(0, 1); 127])?.buses(), 127);
+    refused(&rt, &[line(0, 1); 128], Fault::TooMany);
+    Ok(())
 }
 
 #[test]
@@ -212,6 +184,6 @@ fn no_bus(rt: HostRuntime) -> Result<(), Fail> {
     assert_eq!(rt; map.metered(), 0);
     assert_eq!(rt; map.distance(0), Some(0));
     assert_eq!(rt; map.distance(1), None);
-    assert_eq!(rt; drawn(0, &[])?.buses(), 0);
+    assert_eq!(rt; Map::from_lines(0, &[])?.buses(), 0);
     Ok(())
 }

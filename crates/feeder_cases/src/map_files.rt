@@ -1,59 +1,63 @@
 // The header has 12 bytes and its line end 2, so the first record starts at 14.
 // In a record of a bus and a parent of one digit each, the parent is 2 behind its start and the resistance 4.
-use feeder::{Line, Map};
+use crate::line::line;
+use arrayvec::ArrayString;
+use feeder::{Fault, Line, Map};
 use maps::read_map;
 use printing::write_map;
-use refusals::Layer;
+use refusals::{Layer, Refusal};
+use std::array;
+use std::fmt::Write;
 use std::process::Abort;
 use std::test::Fail;
 
-fn line(parent: usize, resistance: u32) -> Line {
-    Line { parent, resistance }
+// A map of one bus, not metered.
+fn single(resistance: u32) -> Result<Map, Fault> {
+    Map::from_lines(0, &[line(0, resistance)])
 }
 
-// A map of one bus, not metered.
-fn single(resistance: u32) -> Result<Map, Fail> {
-    match Map::from_lines(0, &[line(0, resistance)]) {
-        Ok(map) => Ok(map),
-        Err(_) => Err(Fail::new("no map")),
-    }
+// Whether a file's refusal has this number and this place.
+fn told(rt: &impl Abort, refusal: Refusal, number: u8, place: usize) {
+    let layer = Layer::File;
+    assert_eq!(rt;
+        refusal,
+        Refusal {
+            number,
+            layer,
+            place
+        }
+    );
 }
 
 // Whether reading refuses with this number at this place, and leaves the place as it was.
 fn refused(rt: &impl Abort, file: &[u8], number: u8, place: usize) -> Result<(), Fail> {
     let mut map = single(7)?;
-    match read_map(file, &mut map) {
-        Ok(()) => Err(Fail::new("accepted")),
-        Err(fault) => {
-            let refusal = fault.refusal();
-            assert_eq!(rt; refusal.layer, Layer::File);
-            assert_eq!(rt; refusal.number, number);
-            assert_eq!(rt; refusal.place, place);
-            untouched(rt, &map)
-        }
-    }
+    let Err(fault) = read_map(file, &mut map) else {
+        return Err(Fail::new("accepted"));
+    };
+    told(rt, Refusal::from(fault), number, place);
+    untouched(rt, &map);
+    Ok(())
 }
 
 // Whether a map is still that of one bus with resistance 7.
-fn untouched(rt: &impl Abort, map: &Map) -> Result<(), Fail> {
+fn untouched(rt: &impl Abort, map: &Map) {
     assert_eq!(rt; map.buses(), 1);
     assert_eq!(rt; map.metered(), 0);
     assert_eq!(rt; map.resistance(1), Some(7));
-    Ok(())
 }
 
 fn read(file: &[u8]) -> Result<Map, Fail> {
     let mut map = single(7)?;
-    match read_map(file, &mut map) {
-        Ok(()) => Ok(map),
-        Err(_) => Err(Fail::new("refused")),
-    }
+    read_map(file, &mut map)?;
+    Ok(map)
 }
 
 // Whether a map has these lines, and every bus is metered.
 fn has(rt: &impl Abort, map: &Map, lines: &[Line]) {
     assert_eq!(rt; map.buses(), lines.len());
     assert_eq!(rt; map.metered(), lines.len());
+    assert_eq!(rt; map.lines(), lines);
     for (i, line) in lines.iter().enumerate() {
         assert!(rt; i < 64);
         assert_eq!(rt; map.parent(i + 1), Some(line.parent));
@@ -66,26 +70,20 @@ fn reads(rt: &impl Abort, file: &[u8], lines: &[Line]) -> Result<(), Fail> {
     Ok(())
 }
 
-fn untouched_bytes(rt: &impl Abort, bytes: &[u8]) -> Result<(), Fail> {
-    for byte in bytes {
-        assert!(rt; *byte == b'x');
-    }
-    Ok(())
+fn untouched_bytes(rt: &impl Abort, bytes: &[u8]) {
+    assert!(rt; bytes.iter().all(|byte| *byte == b'x'));
 }
 
 // Whether a map is written as this text, and the bytes behind it stay.
 fn writes(rt: &impl Abort, map: &Map, text: &[u8]) -> Result<(), Fail> {
     let mut out = [b'x'; 100];
-    match write_map(map, &mut out) {
-        Ok(n) => {
-            assert_eq!(rt; n, text.len());
-            assert!(rt; n <= 100);
-            let front: &[u8] = &out[0..n];
-            assert!(rt; front == text);
-            untouched_bytes(rt, &out[n..100])
-        }
-        Err(_) => Err(Fail::new("no room")),
-    }
+    let n = write_map(map, &mut out)?;
+    let Some((front, rest)) = out.split_at_checked(n) else {
+        return Err(Fail::new("longer than the buffer"));
+    };
+    assert_eq!(rt; front, text);
+    untouched_bytes(rt, rest);
+    Ok(())
 }
 
 // 14 bytes of header, and 14 for each of three records: 56.
@@ -114,30 +112,23 @@ fn texts_of_one_bus(rt: HostRuntime) -> Result<(), Fail> {
 #[test]
 fn a_buffer_that_is_too_short(rt: HostRuntime) -> Result<(), Fail> {
     let mut out = [b'x'; 27];
-    match write_map(&single(300)?, &mut out) {
-        Ok(_) => Err(Fail::new("accepted")),
-        Err(fault) => {
-            let refusal = fault.refusal();
-            assert_eq!(rt; refusal.layer, Layer::File);
-            assert_eq!(rt; refusal.number, 22);
-            assert_eq!(rt; refusal.place, 28);
-            untouched_bytes(&rt, &out)
-        }
-    }
+    let Err(fault) = write_map(&single(300)?, &mut out) else {
+        return Err(Fail::new("accepted"));
+    };
+    told(&rt, Refusal::from(fault), 22, 28);
+    untouched_bytes(&rt, &out);
+    Ok(())
 }
 
 #[test]
 fn a_buffer_that_just_fits(rt: HostRuntime) -> Result<(), Fail> {
     let mut out = [b'x'; 28];
-    match write_map(&single(300)?, &mut out) {
-        Ok(n) => {
-            assert_eq!(rt; n, 28);
-            let all: &[u8] = &out;
-            assert!(rt; all == b"bus,parent,r\r\n1,0,0.000300\r\n".as_slice());
-            Ok(())
-        }
-        Err(_) => Err(Fail::new("no room")),
-    }
+    assert_eq!(rt; write_map(&single(300)?, &mut out)?, 28);
+    assert_eq!(rt;
+        out.as_slice(),
+        b"bus,parent,r\r\n1,0,0.000300\r\n".as_slice()
+    );
+    Ok(())
 }
 
 #[test]
@@ -232,50 +223,33 @@ fn the_farthest_bus(rt: HostRuntime) -> Result<(), Fail> {
     refused(&rt, b"bus,parent,r\r\n1,0,0.999999\r\n2,1,0.000002", 20, 2)
 }
 
-// A file of n buses, 65 at most, each from the substation, in records of 10 bytes with their line ends: its length.
-fn star(out: &mut [u8; 664], n: usize) -> usize {
-    out[0..14].copy_from_slice(b"bus,parent,r\r\n");
-    let mut at = 14;
+// A file of n buses, each from the substation, in records of 10 bytes with their line ends.
+fn star(n: usize) -> Result<ArrayString<664>, Fail> {
+    let mut file = ArrayString::new();
+    file.try_push_str("bus,parent,r\r\n")?;
     for bus in 1..=n {
-        if at > 654 || bus > 99 {
-            return at;
-        }
-        out[at..at + 10].copy_from_slice(b"00,0,0.1\r\n");
-        out[at] = b'0' + (bus / 10) as u8;
-        out[at + 1] = b'0' + (bus % 10) as u8;
-        at += 10;
+        write!(file, "{bus:02},0,0.1\r\n")?;
     }
-    at
+    Ok(file)
 }
 
 #[test]
 fn sixty_four_buses_and_one_more(rt: HostRuntime) -> Result<(), Fail> {
-    let mut out = [0; 664];
-    let most = star(&mut out, 64);
-    assert!(rt; most == 654);
-    let map = read(&out[0..most])?;
+    let most = star(64)?;
+    assert_eq!(rt; most.len(), 654);
+    let map = read(most.as_bytes())?;
     assert_eq!(rt; map.buses(), 64);
     assert_eq!(rt; map.distance(64), Some(100_000));
-    let more = star(&mut out, 65);
-    assert!(rt; more == 664);
-    refused(&rt, &out[0..more], 19, 654)
+    let more = star(65)?;
+    assert_eq!(rt; more.len(), 664);
+    refused(&rt, more.as_bytes(), 19, 654)
 }
 
-// Every bus hangs on the one before it, with resistance 1.
-fn chain(lines: &mut [Line; 101]) {
-    for i in 0..101 {
-        lines[i] = line(i, 1);
-    }
-}
-
-// A chain of 101 buses: 9 records of 14 bytes behind the header, one of 15, 89 of 16, one of 17 and one of 18.
+// A chain of 101 buses with resistance 1: 9 records of 14 bytes behind the header, one of 15, 89 of 16, one of 17 and one of 18.
 #[test]
 fn numbers_of_two_and_three_digits(rt: HostRuntime) -> Result<(), Fail> {
-    let mut lines = [line(0, 1); 101];
-    chain(&mut lines);
-    let Ok(map) = Map::from_lines(101, &lines[0..101]) else {
-        return Err(Fail::new("no map"));
-    };
+    let lines: [Line; 101] = array::from_fn(|i| line(i, 1));
+    let map = Map::from_lines(101, &lines)?;
     let mut out = [0; 2_300];
     assert_eq!(rt; write_map(&map, &mut out).ok(), Some(1_614));
     assert_eq!(rt; &out[126..140], b"9,8,0.000001\r\n".as_slice());

@@ -1,39 +1,39 @@
 use files::Table;
-use refusals::Layer;
+use refusals::{Layer, Refusal};
+use std::alloc::{AllocError, Global};
 use std::process::Abort;
 use std::test::Fail;
 
-// Whether reading refuses with this number at this place, and leaves the place as it was.
+// Whether reading refuses with this number at this place, and leaves the table as it was.
 fn refused(rt: &impl Abort, file: &[u8], number: u8, place: usize) -> Result<(), Fail> {
     let mut table = Table::new();
-    match table.read(file) {
-        Ok(()) => Err(Fail::new("accepted")),
-        Err(fault) => {
-            let refusal = fault.refusal();
-            assert_eq!(rt; refusal.layer, Layer::File);
-            assert_eq!(rt; refusal.number, number);
-            assert_eq!(rt; refusal.place, place);
-            assert_eq!(rt; table.buses, 1);
-            Ok(())
+    let Err(fault) = table.read(file) else {
+        return Err(Fail::new("accepted"));
+    };
+    let layer = Layer::File;
+    assert_eq!(rt;
+        Refusal::from(fault),
+        Refusal {
+            number,
+            layer,
+            place
         }
-    }
+    );
+    assert_eq!(rt; table.buses, 1);
+    Ok(())
 }
 
 // The step and the first two responses of inverter m.
 fn probed(rt: &impl Abort, table: &Table, m: usize) -> Result<(i64, i64, i64), Fail> {
-    assert!(rt; m >= 1 && m <= 64);
-    match table.probes[m - 1] {
-        Some(probe) => Ok((probe.step, probe.responses[0], probe.responses[1])),
-        None => Err(Fail::new("not probed")),
-    }
+    assert!(rt; (1..=64).contains(&m));
+    let probe = table.probes[m - 1].ok_or("not probed")?;
+    Ok((probe.step, probe.responses[0], probe.responses[1]))
 }
 
 fn read(file: &[u8]) -> Result<Table, Fail> {
     let mut table = Table::new();
-    match table.read(file) {
-        Ok(()) => Ok(table),
-        Err(_) => Err(Fail::new("refused")),
-    }
+    table.read(file)?;
+    Ok(table)
 }
 
 #[test]
@@ -45,7 +45,7 @@ fn a_file_of_three_buses(rt: HostRuntime) -> Result<(), Fail> {
     assert_eq!(rt; probed(&rt, &table, 2)?, (-500, 300, 500));
     assert_eq!(rt; probed(&rt, &table, 3)?, (250, 300, 300));
     assert!(rt; table.probes[0].is_none());
-    assert!(rt; !table.mute[0] && !table.mute[1] && !table.mute[2]);
+    assert!(rt; !table.mute[..3].contains(&true));
     Ok(())
 }
 
@@ -118,30 +118,22 @@ fn bytes_first(rt: HostRuntime) -> Result<(), Fail> {
     refused(&rt, b"probe,step,1\r\n1,0.1,\"0", 1, 22)
 }
 
-// A header of n buses, 10 or more, in a buffer of 300 bytes: its length.
-fn header(out: &mut [u8; 300], n: usize) -> usize {
-    let start = b"probe,step,1,2,3,4,5,6,7,8,9";
-    out[0..28].copy_from_slice(start);
-    let mut at = 28;
-    for bus in 10..=n {
-        if at > 297 || bus > 99 {
-            return at;
-        }
-        out[at] = b',';
-        out[at + 1] = b'0' + (bus / 10) as u8;
-        out[at + 2] = b'0' + (bus % 10) as u8;
-        at += 3;
+// A header of n buses.
+fn header(alloc: Global, n: usize) -> Result<String, AllocError> {
+    let mut text = String::new(alloc);
+    write!(text, "probe,step")?;
+    for bus in 1..=n {
+        write!(text, ",{bus}")?;
     }
-    at
+    Ok(text)
 }
 
 #[test]
 fn sixty_four_buses_and_one_more(rt: HostRuntime) -> Result<(), Fail> {
-    let mut out = [0; 300];
-    let most = header(&mut out, 64);
-    assert!(rt; most == 193);
-    assert_eq!(rt; read(&out[0..most])?.buses, 64);
-    let more = header(&mut out, 65);
-    assert!(rt; more == 196);
-    refused(&rt, &out[0..more], 3, 194)
+    let most = header(rt.alloc(), 64)?;
+    assert_eq!(rt; most.len(), 193);
+    assert_eq!(rt; read(most.as_bytes())?.buses, 64);
+    let more = header(rt.alloc(), 65)?;
+    assert_eq!(rt; more.len(), 196);
+    refused(&rt, more.as_bytes(), 3, 194)
 }

@@ -5,13 +5,13 @@ use Rattle.std.proofs.lemmas.Bool.{and_parts, leb-true, eqb-true, cases_lt}
 use Rattle.rfc4180.specs.Places.{Content, nothing, held, Piece, start_of}
 use Rattle.units.specs.Decimals.{bus_of, decimal_of}
 use Rattle.units.specs.Quotients.{Moderate}
+use Rattle.files.proofs.Clash.{clash}
 use Rattle.files.specs.declared.fault.FileFault.TheVariants.{FieldCount, Form, Inverter, Step}
-use Rattle.files.specs.declared.table.Changes.{Changes}
 use Rattle.files.specs.declared.table.Probe.{Probe}
 use Rattle.files.specs.declared.table.Table.{Table}
 use Rattle.files.specs.Faults.{need}
 use Rattle.files.specs.Numbers.{probe_of, fresh, step_is, inverter_of, step_of}
-use Rattle.files.specs.Rows.{field_of, changes_from, unprobed, joined, row_of}
+use Rattle.files.specs.Rows.{Changes, field_of, changes_from, unprobed, joined, row_of}
 use Rattle.files.specs.Responses.{mute_of, response_at}
 use Rattle.files.specs.Sound.{Measured, Sound}
 use Rattle.files.proofs.Changes.{need_ok, having_ok, after_ok, Says, change_says, Shows, Filled, filled}
@@ -52,7 +52,7 @@ pub record Added (t next : Table) (row : List Piece) : Type 0 where
 
 none_from : {A : Type 0} (o : Option A) → not (is_some o) ≡ true → o ≡ None
 none_from None e = refl
-none_from (Some x) e = absurd (let z : ◌≡◌ {A = ℕ} 0 1 = cc in omega arith)
+none_from (Some x) e = clash cc
 
 record Named (t : Table) (p : Piece) (m : ℕ) : Type 0 where
   names : bus_of (held p.content) ≡ Some m

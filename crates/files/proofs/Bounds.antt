@@ -4,13 +4,15 @@ use Rattle.std.specs.Str.{bytes_eq}
 use Rattle.std.proofs.lemmas.List.{length-replicate}
 use Rattle.std.proofs.lemmas.Bool.{and_parts, ltb-true, cases_eq}
 use Rattle.rfc4180.specs.Places.{held, Piece, end_of}
+use Rattle.files.proofs.Clash.{clash}
 use Rattle.files.specs.declared.fault.FileFault.TheVariants.{Header}
 use Rattle.files.specs.declared.table.Probe.{Probe}
 use Rattle.files.specs.declared.table.Table.{Table}
-use Rattle.files.specs.Columns.{column_name, right_column, header_from, header_of}
+use Rattle.files.specs.Columns.{column_name, right_column, columns_from, columns_of, header_of}
 use Rattle.files.specs.Numbers.{probe_of}
 use Rattle.files.specs.Rows.{row_of, rows_of, empty_table, table_of}
 use Rattle.files.specs.Sound.{Measured, Sound}
+use Rattle.files.specs.Faults.{need}
 use Rattle.files.proofs.Changes.{need_ok, after_ok}
 use Rattle.files.proofs.Added.{everywhere, Added, row_added}
 
@@ -26,23 +28,25 @@ sound_empty n l h =
       places = length-replicate {A = Option Probe} 64 None;
       heard = λ k m. everywhere 64 (k - 1) false;
       absent = λ m k. empty_probe n m;
-      measured = λ m p e. absurd (let h = empty_probe n m in let z : ◌≡◌ {A = ℕ} 0 1 = cc in omega arith);
+      measured = λ m p e. (let h = empty_probe n m in clash cc);
     }
 
 -- a header names 1 to 64 buses
-header_from_lem : (k end : ℕ) (ps : List Piece) (n : ℕ) → k ≤ 66 → header_from k end ps ≡ Ok n → (1 ≤ n) × (n ≤ 64)
-header_from_lem k end [] n l e =
-    let passed = need_ok (ltb 2 k) (Header end) (Ok (k - 2)) n e in
-    let same : k - 2 ≡ n = (let h = passed.1 in cc) in
-    let more = ltb-true 2 k passed.0 in
-    (omega arith, omega arith)
-header_from_lem k end (p ∷ ps) n l e =
-    let passed = need_ok (right_column k p.content) (Header p.start) (header_from (k + 1) end ps) n e in
+pub columns_few : (k : ℕ) (ps : List Piece) (n : ℕ) → k ≤ 66 → columns_from right_column k ps ≡ Ok n → n ≤ 66
+columns_few k [] n l e = let same : k ≡ n = cc in omega (arith, same)
+columns_few k (p ∷ ps) n l e =
+    let passed = need_ok (right_column k p.content) (Header p.start) (columns_from right_column (k + 1) ps) n e in
     let few = (and_parts (ltb k 66) (bytes_eq (held p.content) (column_name k)) passed.0).0 in
-    header_from_lem (k + 1) end ps n (omega (arith, ltb-true k 66 few)) passed.1
+    columns_few (k + 1) ps n (omega (arith, ltb-true k 66 few)) passed.1
 
-header_buses : (ps : List Piece) (n : ℕ) → header_of ps ≡ Ok n → (1 ≤ n) × (n ≤ 64)
-header_buses ps n e = header_from_lem 0 (end_of ps) ps n (omega arith) e
+pub header_buses : (ps : List Piece) (n : ℕ) → header_of ps ≡ Ok n → (1 ≤ n) × (n ≤ 64)
+header_buses ps n e =
+    let columns = after_ok (columns_of right_column ps) (λ k. need (ltb 2 k) (Header (end_of ps)) (Ok (k - 2))) n e in
+    let passed = need_ok (ltb 2 columns.0) (Header (end_of ps)) (Ok (columns.0 - 2)) n columns.2 in
+    let same : columns.0 - 2 ≡ n = (let h = passed.1 in cc) in
+    let more = ltb-true 2 columns.0 passed.0 in
+    let few = columns_few 0 ps columns.0 (omega arith) columns.1 in
+    (omega arith, omega arith)
 
 pub header_sound : (ps : List Piece) (n : ℕ) → header_of ps ≡ Ok n → Sound (empty_table n)
 header_sound ps n e = let range = header_buses ps n e in sound_empty n range.0 range.1
@@ -83,7 +87,7 @@ rows_sound t (row ∷ rows) t' sound e =
     rows_sound cut.0 rows t' (added_sound t cut.0 row sound (row_added t sound row cut.0 cut.1)) cut.2
 
 pub sound : (records : List (List Piece)) (t : Table) → table_of records ≡ Ok t → Sound t
-sound [] t e = absurd (let z : ◌≡◌ {A = ℕ} 0 1 = cc in omega arith)
+sound [] t e = clash cc
 sound (header ∷ rows) t e =
     let cut = after_ok (header_of header) (λ n. rows_of (empty_table n) rows) t e in
     rows_sound (empty_table cut.0) rows t (header_sound header cut.0 cut.1) cut.2

@@ -5,26 +5,26 @@ use Rattle.rfc4180.specs.Places.{Content, plainly, quotedly, nothing, held, Piec
 use Rattle.units.specs.Decimals.{decimal_of}
 use Rattle.units.specs.Quotients.{Moderate, Divides, response_of}
 use Rattle.units.proofs.Division.{divides}
+use Rattle.files.proofs.Clash.{clash}
 use Rattle.files.specs.declared.fault.FileFault.{FileFault}
 use Rattle.files.specs.declared.fault.FileFault.TheVariants.{Form, Change}
-use Rattle.files.specs.declared.table.Changes.{Changes}
 use Rattle.files.specs.Faults.{need, having, after}
 use Rattle.files.specs.Numbers.{quotient_of, change_in, change_of}
-use Rattle.files.specs.Rows.{field_of, noted, changes_from}
+use Rattle.files.specs.Rows.{Changes, field_of, noted, changes_from}
 
 -- A check, a value and a part that were accepted.
 
 pub need_ok : {A : Type 0} (b : Bool) (fault : FileFault) (rest : Result A FileFault) (y : A) → need b fault rest ≡ Ok y → (b ≡ true) × (rest ≡ Ok y)
 need_ok true fault rest y e = (refl, e)
-need_ok false fault rest y e = absurd (let z : ◌≡◌ {A = ℕ} 0 1 = cc in omega arith)
+need_ok false fault rest y e = clash cc
 
 pub having_ok : {A B : Type 0} (o : Option A) (fault : FileFault) (rest : A → Result B FileFault) (y : B) → having o fault rest ≡ Ok y → (x : A) × (o ≡ Some x) × (rest x ≡ Ok y)
-having_ok None fault rest y e = absurd (let z : ◌≡◌ {A = ℕ} 0 1 = cc in omega arith)
+having_ok None fault rest y e = clash cc
 having_ok (Some x) fault rest y e = (x, refl, e)
 
 pub after_ok : {A B : Type 0} (o : Result A FileFault) (rest : A → Result B FileFault) (y : B) → after o rest ≡ Ok y → (x : A) × (o ≡ Ok x) × (rest x ≡ Ok y)
 after_ok (Ok x) rest y e = (x, refl, e)
-after_ok (Err fault) rest y e = absurd (let z : ◌≡◌ {A = ℕ} 0 1 = cc in omega arith)
+after_ok (Err fault) rest y e = clash cc
 
 -- what an accepted field says: a blank, or a change that the response times the step is
 abbrev pub Says : ℤ → Content → Option ℤ → Type 0
@@ -38,7 +38,7 @@ quotient_says step some p r full e = go r (having_ok (response_of change.0 step)
     change = having_ok (decimal_of 9 (held p.content)) (Form p.start) _ r e
 
     go : (o : Option ℤ) → (q : ℤ) × (response_of change.0 step ≡ Some q) × (◌≡◌ {A = Result (Option ℤ) FileFault} (Ok (Some q)) (Ok o)) → Says step p.content o
-    go None (q, f, g) = absurd (let z : ◌≡◌ {A = ℕ} 0 1 = cc in omega arith)
+    go None (q, f, g) = clash cc
     go (Some s) (q, f, g) =
         let same : response_of change.0 step ≡ Some s = cc in
         let fits = subst (Divides change.0 step) same (divides change.0 step some) in
@@ -48,8 +48,8 @@ pub change_says : (step : ℤ) → (step ≡ pos 0 → ⊥) → (p : Piece) (r :
 change_says step some p r e = go p.content refl e
   where
     go : (content : Content) → p.content ≡ content → change_in step p content ≡ Ok r → Says step p.content r
-    go (plainly xs) is e = quotient_says step some p r (λ h. let z : ◌≡◌ {A = ℕ} 0 1 = cc in omega arith) e
-    go (quotedly xs) is e = quotient_says step some p r (λ h. let z : ◌≡◌ {A = ℕ} 0 1 = cc in omega arith) e
+    go (plainly xs) is e = quotient_says step some p r (λ h. clash cc) e
+    go (quotedly xs) is e = quotient_says step some p r (λ h. clash cc) e
     go nothing is e = let same : None ≡ r = cc in subst (Says step p.content) same is
 
 -- both arrays have a place for each of 64 buses

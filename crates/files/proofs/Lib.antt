@@ -1,5 +1,5 @@
+pub mod Clash
 pub mod Texts
-pub mod Reading
 pub mod Changes
 pub mod Added
 pub mod Bounds

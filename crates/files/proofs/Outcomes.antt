@@ -1,5 +1,5 @@
 -- What reading a response file answers, from what opening it and reading its records answer.
-use Rattle.std.proofs.Common.{◌≡◌, ℕ, ◌≤◌, true, List, [], ◌∷◌, Ok, Err, Result, sym, refl, ap, ◌∙◌, subst, arith}
+use Rattle.std.proofs.Common.{◌≡◌, ℕ, ◌≤◌, true, List, [], ◌∷◌, Ok, Err, Result, sym, refl, ap, ◌∙◌, subst}
 use Rattle.rfc4180.specs.declared.fault.Fault.{Fault}
 use Rattle.rfc4180.specs.declared.fault.Fault.TheVariants.{TooLong, Syntax}
 use Rattle.rfc4180.specs.declared.reader.Reader.{Reader}
@@ -7,6 +7,7 @@ use Rattle.rfc4180.specs.Grammar.{File}
 use Rattle.rfc4180.specs.Places.{Piece, Parse, records_of}
 use Rattle.rfc4180.specs.Opening.{Opening}
 use Rattle.rfc4180.specs.Views.{left}
+use Rattle.files.proofs.Clash.{clash}
 use Rattle.files.specs.declared.fault.FileFault.{FileFault}
 use Rattle.files.specs.declared.fault.FileFault.TheVariants.{Bytes}
 use Rattle.files.specs.declared.table.Table.{Table}
@@ -41,7 +42,7 @@ told_of bytes new reader h e f parse =
     told (records_of f) new (ap (λ (g : File). table_of (records_of g)) (h.1.only f parse) ∙ sym (ap table_of h.1.records) ∙ sym e)
 
 never : {A : Type 0} (u : Unit {0}) (fault : FileFault) → ◌≡◌ {A = Result (Unit {0}) FileFault} (Ok u) (Err fault) → A
-never u fault e = absurd (let z : ◌≡◌ {A = ℕ} 0 1 = cc in omega arith)
+never u fault e = clash cc
 
 -- an accepted table is within its bounds
 pub reading_sound : (bytes : List ℕ) (old new : Table) (u : Unit {0}) → Reading bytes old new (Ok u) → Sound new

@@ -1,12 +1,14 @@
 -- What a field holds, from its text in the file: a blank and a field that holds a quote are no number and no name.
-use Rattle.std.proofs.Common.{◌≡◌, ℕ, zero, suc, ◌+◌, ◌≤◌, Bool, true, false, cond, not, eqb, ltb, ◌⊎◌, List, [], ◌∷◌, ◌++◌, length, ℤ, Some, None, Option, refl, ap, ◌∙◌, subst, inl, inr, ⊎_elim, arith, length-append}
+use Rattle.std.proofs.Common.{Bor, ◌&&◌, sym, ◌≡◌, ℕ, zero, suc, ◌+◌, ◌≤◌, Bool, true, false, cond, not, eqb, ltb, ◌⊎◌, List, [], ◌∷◌, ◌++◌, length, ℤ, Some, None, Option, refl, ap, ◌∙◌, subst, inl, inr, ⊎_elim, arith, length-append}
+use Rattle.std.specs.Option.{option_map, MatchOption}
 use Rattle.std.specs.Str.{bytes_eq}
 use Rattle.std.proofs.lemmas.Slice.Eq.{bytes_eq-Decides}
-use Rattle.std.proofs.lemmas.Bool.{and_parts, and_from, both_ways, cases_Bool, cond_both}
+use Rattle.std.proofs.lemmas.Bool.{and_right, and_parts, and_from, both_ways, cases_Bool, cond_both}
 use Rattle.rfc4180.specs.Places.{Content, plainly, quotedly, nothing, held}
 use Rattle.rfc4180.specs.Views.{quoteless, text_of}
 use Rattle.units.specs.Decimals.{digit, digits, Decimal, Form, pointed, written, bus_of, decimal_of}
 use Rattle.units.proofs.Forms.{number_form, value_reads}
+use Rattle.files.proofs.Clash.{clash}
 use Rattle.files.specs.Columns.{bus_name, column_name}
 
 pub text_some : (c : Content) (t : List ℕ) → Some t ≡ text_of c → held c ≡ t
@@ -15,26 +17,26 @@ text_some (quotedly xs) t e = go (quoteless xs) e
   where
     go : (b : Bool) → Some t ≡ cond b (Some xs) None → xs ≡ t
     go true e = cc
-    go false e = absurd (let z : ◌≡◌ {A = ℕ} 0 1 = cc in omega arith)
-text_some nothing t e = absurd (let z : ◌≡◌ {A = ℕ} 0 1 = cc in omega arith)
+    go false e = clash cc
+text_some nothing t e = clash cc
 
 -- a text that is no number and no name: empty, or with a quote in it
 abbrev pub Odd : List ℕ → Type 0
 Odd xs = (xs ≡ []) ⊎ (quoteless xs ≡ false)
 
 pub text_none : (c : Content) → None ≡ text_of c → Odd (held c)
-text_none (plainly xs) e = absurd (let z : ◌≡◌ {A = ℕ} 0 1 = cc in omega arith)
+text_none (plainly xs) e = clash cc
 text_none (quotedly xs) e = go (quoteless xs) refl e
   where
     go : (b : Bool) → quoteless xs ≡ b → None ≡ cond b (Some xs) None → Odd xs
-    go true q e = absurd (let z : ◌≡◌ {A = ℕ} 0 1 = cc in omega arith)
+    go true q e = clash cc
     go false q e = inr q
 text_none nothing e = inl refl
 
 bus_quoteless : (n : ℕ) → quoteless (bus_name n) ≡ true
 bus_quoteless n = cond_both (ltb n 10) _ _ (λ (xs : List ℕ). quoteless xs ≡ true) (λ h. grind arith) (λ h. grind arith)
 
-name_quoteless : (k : ℕ) → quoteless (column_name k) ≡ true
+pub name_quoteless : (k : ℕ) → quoteless (column_name k) ≡ true
 name_quoteless zero = refl
 name_quoteless (suc zero) = refl
 name_quoteless (suc (suc n)) = bus_quoteless (n + 1)
@@ -42,18 +44,23 @@ name_quoteless (suc (suc n)) = bus_quoteless (n + 1)
 bus_some : (n : ℕ) → bytes_eq [] (bus_name n) ≡ false
 bus_some n = cond_both (ltb n 10) _ _ (λ (xs : List ℕ). bytes_eq [] xs ≡ false) (λ h. refl) (λ h. refl)
 
-name_some : (k : ℕ) → bytes_eq [] (column_name k) ≡ false
+pub name_some : (k : ℕ) → bytes_eq [] (column_name k) ≡ false
 name_some zero = refl
 name_some (suc zero) = refl
 name_some (suc (suc n)) = bus_some (n + 1)
 
-pub odd_column : (k : ℕ) (xs : List ℕ) → Odd xs → bytes_eq xs (column_name k) ≡ false
-odd_column k xs (inl e) = ap (λ t. bytes_eq t (column_name k)) e ∙ name_some k
-odd_column k xs (inr q) =
+odd_name : (name xs : List ℕ) → bytes_eq [] name ≡ false → quoteless name ≡ true → Odd xs → bytes_eq xs name ≡ false
+odd_name name xs some plain (inl e) = ap (λ t. bytes_eq t name) e ∙ some
+odd_name name xs some plain (inr q) =
     ⊎_elim
-    (λ t. absurd (both_ways _ q (ap quoteless ((bytes_eq-Decides xs (column_name k)).0 t) ∙ name_quoteless k)))
+    (λ t. absurd (both_ways _ q (ap quoteless ((bytes_eq-Decides xs name).0 t) ∙ plain)))
     (λ f. f)
-    (cases_Bool (bytes_eq xs (column_name k)))
+    (cases_Bool (bytes_eq xs name))
+
+-- whether a field is right as field k of a header, from whether its text is the name of column k
+pub is_column : (most k : ℕ) (name : List ℕ) → bytes_eq [] name ≡ false → quoteless name ≡ true → (c : Content) (text : Option (Bor (List ℕ))) (right : Bool) (P : Bor (List ℕ) → Type 0) → option_map (λ x. x.now) text ≡ text_of c → ((x : Bor (List ℕ)) → P x → right ≡ ltb k most && bytes_eq x.now name) → MatchOption text (right ≡ false) P → right ≡ ltb k most && bytes_eq (held c) name
+is_column most k name some plain c None right P e f m = m ∙ sym (and_right _ _ (odd_name name (held c) some plain (text_none c e)))
+is_column most k name some plain c (Some x) right P e f m = f x m ∙ ap (λ t. ltb k most && bytes_eq t name) (sym (text_some c x.now e))
 
 digit_quoteless : (b : ℕ) → digit b ≡ true → not (eqb b 0x22) ≡ true
 digit_quoteless b h = grind arith

@@ -5,6 +5,7 @@ use Rattle.std.proofs.ByRecursion.{all-has, has_get_or, has_append_right}
 use Rattle.std.proofs.lemmas.Bool.{cases_lt, both_ways}
 use Rattle.rfc4180.specs.Places.{held, Piece}
 use Rattle.units.specs.Decimals.{bus_of}
+use Rattle.files.proofs.Clash.{clash}
 use Rattle.files.specs.declared.table.Probe.{Probe}
 use Rattle.files.specs.declared.table.Table.{Table}
 use Rattle.files.specs.Columns.{header_of}
@@ -47,7 +48,7 @@ module _ (t next t' : Table) (row : List Piece) (rows : List (List Piece)) (adde
   -- a probe that stands is another inverter's
   keeps : (m : ℕ) (p : Probe) → 1 ≤ m → probe_of t m ≡ Some p → probe_of next m ≡ Some p
   keeps m p l e =
-      added.others m l (λ same. let h = added.free in let k = ap (probe_of t) same in let z : ◌≡◌ {A = ℕ} 0 1 = cc in omega arith) ∙ e
+      added.others m l (λ same. let h = added.free in let k = ap (probe_of t) same in clash cc) ∙ e
 
   -- a record's blanks, and nothing else of it, mute meters
   mutes : (n : ℕ) → 1 ≤ n → ((n ≤ t.buses) × Blank row n × (mute_of next n ≡ true)) ⊎ ((n ≤ t.buses → Blank row n → ⊥) × (mute_of next n ≡ mute_of t n))
@@ -123,13 +124,13 @@ empty_told : (n : ℕ) (t : Table) (rows : List (List Piece)) → Grown (empty_t
 empty_told n t rows g =
     record {
       each = λ row has. (all-has (λ r. Noted t r × Muted t r) rows row g.each has).0;
-      only = λ m p l e. ⊎_elim (λ old. absurd (let h = empty_probe n m in let z : ◌≡◌ {A = ℕ} 0 1 = cc in omega arith)) (λ found. found) (g.only m p l e);
+      only = λ m p l e. ⊎_elim (λ old. (let h = empty_probe n m in clash cc)) (λ found. found) (g.only m p l e);
       blank = λ k row l h has b. (all-has (λ r. Noted t r × Muted t r) rows row g.each has).1 k l h b;
       mute = λ k l e. ⊎_elim (λ old. absurd (both_ways _ (everywhere 64 (k - 1) false) old)) (λ found. found) (g.mute k l e);
     }
 
 pub told : (records : List (List Piece)) (t : Table) → table_of records ≡ Ok t → FileTold t records
-told [] t e = absurd (let z : ◌≡◌ {A = ℕ} 0 1 = cc in omega arith)
+told [] t e = clash cc
 told (header ∷ rows) t e =
     let cut = after_ok (header_of header) (λ n. rows_of (empty_table n) rows) t e in
     let g = grown (empty_table cut.0) rows t (header_sound header cut.0 cut.1) cut.2 in

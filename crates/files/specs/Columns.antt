@@ -4,7 +4,7 @@ use Rattle.std.specs.Str.{bytes_eq}
 use Rattle.rfc4180.specs.Places.{Content, held, Piece, end_of}
 use Rattle.files.specs.declared.fault.FileFault.{FileFault}
 use Rattle.files.specs.declared.fault.FileFault.TheVariants.{Header}
-use Rattle.files.specs.Faults.{need}
+use Rattle.files.specs.Faults.{need, after}
 
 -- a bus number below 100 without leading zeros
 abbrev pub bus_name : ℕ → List ℕ
@@ -20,10 +20,14 @@ column_name (suc (suc n)) = bus_name (n + 1)
 abbrev pub right_column : ℕ → Content → Bool
 right_column k content = nat_lt k 66 && bytes_eq (held content) (column_name k)
 
--- the number of buses that a header names, from field k on; `end` is where its last field ends
-abbrev pub header_from : ℕ → ℕ → List Piece → Result ℕ FileFault
-header_from k end [] = need (nat_lt 2 k) (Header end) (Ok (k - 2))
-header_from k end (p ∷ ps) = need (right_column k p.content) (Header p.start) (header_from (k + 1) end ps)
+-- how many fields a header has from field k on, or the first that is not right
+abbrev pub columns_from : (ℕ → Content → Bool) → ℕ → List Piece → Result ℕ FileFault
+columns_from right k [] = Ok k
+columns_from right k (p ∷ ps) = need (right k p.content) (Header p.start) (columns_from right (k + 1) ps)
 
+abbrev pub columns_of : (ℕ → Content → Bool) → List Piece → Result ℕ FileFault
+columns_of right ps = columns_from right 0 ps
+
+-- the number of buses that a header names, behind two columns; where there are fewer than three, the fault is at the end of the last field
 abbrev pub header_of : List Piece → Result ℕ FileFault
-header_of ps = header_from 0 (end_of ps) ps
+header_of ps = after (columns_of right_column ps) (λ k. need (nat_lt 2 k) (Header (end_of ps)) (Ok (k - 2)))

@@ -3,7 +3,6 @@ use Rattle.std.specs.Prelude.{ℕ, ◌+◌, ◌-◌, Bool, true, false, List, []
 use Rattle.rfc4180.specs.Places.{nothing, Piece, start_of}
 use Rattle.files.specs.declared.fault.FileFault.{FileFault}
 use Rattle.files.specs.declared.fault.FileFault.TheVariants.{Header, FieldCount}
-use Rattle.files.specs.declared.table.Changes.{Changes}
 use Rattle.files.specs.declared.table.Table.{Table}
 use Rattle.files.specs.Faults.{need, after}
 use Rattle.files.specs.Columns.{header_of}
@@ -12,6 +11,11 @@ use Rattle.files.specs.Numbers.{inverter_of, step_of, change_of}
 -- field k of a record
 abbrev pub field_of : List Piece → ℕ → Piece
 field_of row k = slice_index_or row k (record { content = nothing; start = 0; end = 0 })
+
+-- what one record gives: the response of each bus, and which meters are mute by then
+pub record Changes : Type 0 where
+  pub responses : List ℤ
+  pub mute : List Bool
 
 -- the responses so far with what place n of a record gives: a response, or a mute meter for a blank
 abbrev pub noted : Changes → ℕ → Option ℤ → Changes

@@ -38,38 +38,32 @@ impl From<Fault> for FileFault {
     }
 }
 
-// A refusal of the file layer.
-fn refused(number: u8, place: usize) -> Refusal
-    ensures { result ≡ record { number = number; layer = Layer.File; place = place } }
-{
-    Refusal {
-        number,
-        layer: Layer::File,
-        place,
-    }
-}
+// The fault's number, layer and place.
+impl From<FileFault> for Refusal {
+    ghost from_gives = { λ fault r. r ≡ refusal_of fault };
 
-impl FileFault {
-    // The fault's number, layer and place.
-    pub fn refusal(self) -> Refusal
-        ensures { result ≡ refusal_of self }
-    {
-        match self {
+    fn from(fault: FileFault) -> Refusal {
+        let (number, place) = match fault {
             FileFault::Bytes {
                 fault: Fault::Syntax { at },
-            } => refused(1, at),
+            } => (1, at),
             FileFault::Bytes {
                 fault: Fault::TooLong,
-            } => refused(2, 65_536),
-            FileFault::Header { at } => refused(3, at),
-            FileFault::FieldCount { at } => refused(4, at),
-            FileFault::Form { at } => refused(5, at),
-            FileFault::Inverter { at } => refused(6, at),
-            FileFault::Step { at } => refused(7, at),
-            FileFault::Change { at } => refused(8, at),
-            FileFault::MapEntry { at } => refused(19, at),
-            FileFault::Unreached { bus } => refused(20, bus),
-            FileFault::ShortBuffer { needed } => refused(22, needed),
+            } => (2, 65_536),
+            FileFault::Header { at } => (3, at),
+            FileFault::FieldCount { at } => (4, at),
+            FileFault::Form { at } => (5, at),
+            FileFault::Inverter { at } => (6, at),
+            FileFault::Step { at } => (7, at),
+            FileFault::Change { at } => (8, at),
+            FileFault::MapEntry { at } => (19, at),
+            FileFault::Unreached { bus } => (20, bus),
+            FileFault::ShortBuffer { needed } => (22, needed),
+        };
+        Refusal {
+            number,
+            layer: Layer::File,
+            place,
         }
     }
 }

@@ -9,7 +9,7 @@ mod responses;
 mod rows;
 mod table;
 
-pub use columns::same;
+pub use columns::{Columns, read_columns};
 pub use fault::FileFault;
 pub use numbers::{bus_field, decimal_field};
-pub use table::{Probe, Table};
+pub use table::{MOST_BUSES, Probe, Table};

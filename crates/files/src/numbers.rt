@@ -8,24 +8,21 @@ use crate::{FileFault, Table};
 use rfc4180::Field;
 use units::{Scale, bus_number, decimal, response};
 
+// The largest step either way, in thousandths.
+const MOST_STEP: u64 = 1_000;
+
 // The bus number that a field holds.
 pub fn bus_field(field: Field<'_>) -> Option<usize>
     ensures { result ≡ bus_of (held (piece field.entry).content) }
 {
-    match field.text() {
-        Some(text) => bus_number(text),
-        None => None,
-    }
+    bus_number(field.text()?)
 }
 
 // The decimal that a field holds.
 pub fn decimal_field(field: Field<'_>, scale: Scale) -> Option<i64>
     ensures { result ≡ decimal_of (places_of scale) (held (piece field.entry).content) }
 {
-    match field.text() {
-        Some(text) => decimal(text, scale),
-        None => None,
-    }
+    decimal(field.text()?, scale)
 }
 
 // A record's inverter: one of the table's buses that has no record yet.
@@ -35,10 +32,8 @@ pub(crate) fn read_inverter(field: Field<'_>, table: &Table) -> Result<usize, Fi
     ensures bus { IfOk result (λ m. (1 ≤ m) × (m ≤ 64)) }
 {
     let at = field.start();
-    let Some(inverter) = bus_field(field) else {
-        return Err(FileFault::Form { at });
-    };
-    if inverter < 1 || inverter > table.buses || table.probes[inverter - 1].is_some() {
+    let inverter = bus_field(field).ok_or(FileFault::Form { at })?;
+    if !(1..=table.buses).contains(&inverter) || table.probes[inverter - 1].is_some() {
         return Err(FileFault::Inverter { at });
     }
     Ok(inverter)
@@ -49,10 +44,8 @@ pub(crate) fn read_step(field: Field<'_>) -> Result<i64, FileFault>
     ensures { result ≡ step_of (piece field.entry) }
 {
     let at = field.start();
-    let Some(step) = decimal_field(field, Scale::Thousandths) else {
-        return Err(FileFault::Form { at });
-    };
-    if step == 0 || step < -1_000 || step > 1_000 {
+    let step = decimal_field(field, Scale::Thousandths).ok_or(FileFault::Form { at })?;
+    if !(1..=MOST_STEP).contains(&step.unsigned_abs()) {
         return Err(FileFault::Step { at });
     }
     Ok(step)
@@ -62,15 +55,11 @@ pub(crate) fn read_step(field: Field<'_>) -> Result<i64, FileFault>
 pub(crate) fn read_change(field: Field<'_>, step: i64) -> Result<Option<i64>, FileFault>
     ensures { result ≡ change_of step (piece field.entry) }
 {
-    if let Field::Blank { at: _ } = field {
+    if matches!(field, Field::Blank { .. }) {
         return Ok(None);
     }
     let at = field.start();
-    let Some(change) = decimal_field(field, Scale::Billionths) else {
-        return Err(FileFault::Form { at });
-    };
-    match response(change, step) {
-        Some(quotient) => Ok(Some(quotient)),
-        None => Err(FileFault::Change { at }),
-    }
+    let change = decimal_field(field, Scale::Billionths).ok_or(FileFault::Form { at })?;
+    let quotient = response(change, step).ok_or(FileFault::Change { at })?;
+    Ok(Some(quotient))
 }

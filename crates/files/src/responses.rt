@@ -21,9 +21,7 @@ impl Table {
         ensures reads { Reading file.now self.old self.new result }
         ensures told { OnOk result ((f : File) → Parse f file.now → FileTold self.new (records_of f)) }
     {
-        let mut reader = Reader::open(file)?;
-        let table = read_table(&mut reader)?;
-        *self = table;
+        *self = read_table(Reader::open(file)?)?;
         Ok(())
     }
 }

@@ -1,13 +1,11 @@
-ghost use Rattle.std.specs.Prelude.{◌≡◌, ◌+◌, ◌≤◌, length, IfOk};
-ghost use Rattle.rfc4180.specs.Places.{outline_of};
-ghost use Rattle.rfc4180.specs.Views.{left, outline, remaining};
-ghost use Rattle.files.specs.Rows.{changes_from, unprobed, joined, row_of, rows_of, empty_table, table_of};
+ghost use Rattle.std.specs.Prelude.{◌≡◌, ◌≤◌, length, MatchResult, Ok, Err};
+ghost use Rattle.rfc4180.specs.Views.{left, pieces, remaining};
+ghost use Rattle.files.specs.Rows.{changes_from, unprobed, row_of, empty_table, table_of};
 
 use crate::columns::read_header;
 use crate::numbers::{read_change, read_inverter, read_step};
-use crate::table::Changes;
-use crate::{FileFault, Probe, Table};
-use rfc4180::{Reader, Record};
+use crate::{FileFault, MOST_BUSES, Probe, Table};
+use rfc4180::{Fields, Reader, Record};
 
 // A table of so many buses with no inverter and no mute meter.
 pub(crate) fn empty_table(buses: usize) -> Table
@@ -15,91 +13,58 @@ pub(crate) fn empty_table(buses: usize) -> Table
 {
     Table {
         buses,
-        mute: [false; 64],
-        probes: [None; 64],
+        mute: [false; MOST_BUSES],
+        probes: [None; MOST_BUSES],
     }
 }
 
-// What the changes of a record give, after the meters that are mute already.
-fn read_changes(record: Record<'_>, step: i64, mute: [bool; 64]) -> Result<Changes, FileFault>
-    requires { length (remaining «record») ≤ 64 }
-    ensures { result ≡ changes_from step 0 (unprobed mute) (remaining «record».entry) }
+// What the changes of a record give at each bus; a blank makes its meter mute.
+fn read_changes(
+    fields: Fields<'_>,
+    step: i64,
+    mute: &mut [bool; MOST_BUSES],
+) -> Result<[i64; MOST_BUSES], FileFault>
+    requires { length (remaining fields) ≤ 64 }
+    ensures { MatchResult result (λ responses. changes_from step 0 (unprobed mute.old) (remaining fields.entry) ≡ Ok (record { responses = responses; mute = mute.new })) (λ e. changes_from step 0 (unprobed mute.old) (remaining fields.entry) ≡ Err e) }
 {
-    let mut rest = record;
-    let mut changes = Changes {
-        responses: [0; 64],
-        mute,
-    };
-    let mut n = 0;
-    while let Some(field) = rest.field() {
+    let mut responses = [0; MOST_BUSES];
+    for (n, field) in fields.enumerate() {
         match read_change(field, step)? {
-            Some(response) => changes.responses[n] = response,
-            None => changes.mute[n] = true,
+            Some(response) => responses[n] = response,
+            None => mute[n] = true,
         }
-        n += 1;
     }
-    Ok(changes)
+    Ok(responses)
 }
 
-// The table with one record more: first the field count, then the fields from the left.
-fn read_row(record: Record<'_>, table: &Table) -> Result<Table, FileFault>
-    requires whole { outline «record» ≡ outline_of (remaining «record») }
-    requires buses { table.now.buses ≤ 64 }
-    ensures value { result ≡ row_of table.now (remaining «record».entry) }
-    ensures buses { IfOk result (λ next. next.buses ≡ table.now.buses) }
+// Adds a record to a table: first the field count, then the fields from the left.
+fn read_row(row: Record<'_>, table: &mut Table) -> Result<(), FileFault>
+    requires { table.old.buses ≤ 64 }
+    ensures value { MatchResult result (λ _. row_of table.old (pieces row.entry) ≡ Ok table.new) (λ e. row_of table.old (pieces row.entry) ≡ Err e) }
+    ensures buses { table.new.buses ≡ table.old.buses }
 {
-    let miscounted = FileFault::FieldCount { at: record.start() };
-    if record.fields() != table.buses + 2 {
+    let miscounted = FileFault::FieldCount { at: row.start() };
+    if row.fields() != table.buses + 2 {
         return Err(miscounted);
     }
-    let mut rest = record;
-    let Some(first) = rest.field() else {
-        return Err(miscounted);
-    };
+    let mut fields = row.iter();
+    let first = fields.next().ok_or(miscounted)?;
+    let second = fields.next().ok_or(miscounted)?;
     let inverter = read_inverter(first, table)?;
-    let Some(second) = rest.field() else {
-        return Err(miscounted);
-    };
     let step = read_step(second)?;
-    let changes = read_changes(rest, step, table.mute)?;
-    Ok(join(table, inverter, step, changes))
-}
-
-// The table with one inverter more.
-fn join(table: &Table, inverter: usize, step: i64, changes: Changes) -> Table
-    requires { (1 ≤ inverter) × (inverter ≤ 64) }
-    ensures { result ≡ joined table.now inverter step changes }
-{
-    let responses = changes.responses;
-    let mute = changes.mute;
-    let mut probes = table.probes;
-    probes[inverter - 1] = Some(Probe { step, responses });
-    Table {
-        buses: table.buses,
-        mute,
-        probes,
-    }
-}
-
-// The table with the records that are still to be read.
-fn read_rows(reader: &mut Reader<'_>, empty: Table) -> Result<Table, FileFault>
-    requires { empty.buses ≤ 64 }
-    ensures { result ≡ rows_of empty (left reader.old) }
-{
-    let mut table = empty;
-    while let Some(record) = reader.record() {
-        table = read_row(record, &table)?;
-    }
-    Ok(table)
+    let responses = read_changes(fields, step, &mut table.mute)?;
+    table.probes[inverter - 1] = Some(Probe { step, responses });
+    Ok(())
 }
 
 // The table that a response file's records fill: first its header, then record by record.
-pub(crate) fn read_table(reader: &mut Reader<'_>) -> Result<Table, FileFault>
-    ensures { result ≡ table_of (left reader.old) }
+pub(crate) fn read_table(mut reader: Reader<'_>) -> Result<Table, FileFault>
+    ensures { result ≡ table_of (left reader.entry) }
 {
-    let Some(header) = reader.record() else {
-        return Err(FileFault::Header { at: 0 });
-    };
-    let buses = read_header(header)?;
-    read_rows(reader, empty_table(buses))
+    let header = reader.next().ok_or(FileFault::Header { at: 0 })?;
+    let mut table = empty_table(read_header(header)?);
+    for row in reader {
+        read_row(row, &mut table)?;
+    }
+    Ok(table)
 }

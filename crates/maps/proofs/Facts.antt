@@ -10,6 +10,7 @@ use Rattle.units.specs.Decimals.{bus_of, decimal_of}
 use Rattle.feeder.specs.declared.line.Line.{Line}
 use Rattle.feeder.specs.Feeder.{blank, Bus}
 use Rattle.feeder.specs.Build.{IsFlawed}
+use Rattle.files.proofs.Clash.{clash}
 use Rattle.files.specs.declared.fault.FileFault.TheVariants.{FieldCount, Form, MapEntry}
 use Rattle.files.specs.Faults.{need}
 use Rattle.files.specs.Rows.{field_of}
@@ -61,7 +62,7 @@ lines_wired buses lines (row ∷ rows) F all e =
     (rest.0, omega (arith, rest.1, length_push lines cut.0))
 
 pub map_wired : (bytes : ℕ) (records : List (List Piece)) (F : List Line) → map_lines bytes records ≡ Ok F → All (Wired (length F)) F × (1 ≤ length F)
-map_wired bytes [] F e = absurd (let z : ◌≡◌ {A = ℕ} 0 1 = cc in omega arith)
+map_wired bytes [] F e = clash cc
 map_wired bytes (header ∷ rows) F e =
     let cut = after_ok (map_header_of header) (λ _. need (leb 1 (length rows)) (MapEntry bytes) (lines_in (length rows) [] rows)) F e in
     let passed = need_ok (leb 1 (length rows)) (MapEntry bytes) (lines_in (length rows) [] rows) F cut.2 in

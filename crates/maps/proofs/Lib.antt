@@ -1,4 +1,4 @@
-pub mod Steps
+pub mod Names
 pub mod Facts
 pub mod Outcomes
 pub mod Trees

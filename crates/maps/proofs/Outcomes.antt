@@ -1,6 +1,6 @@
 -- What reading a map file answers, from what opening it, reading its records and drawing its lines answer.
-use Rattle.std.proofs.Common.{◌≡◌, ℕ, ◌≤◌, List, length, take, Ok, Err, Result, sym, refl, ap, ◌∙◌, subst, arith}
-use Rattle.std.proofs.lemmas.List.{length-take-le}
+use Rattle.std.proofs.Common.{◌≡◌, ℕ, ◌≤◌, List, length, Ok, Err, Result, sym, refl, ap, ◌∙◌, subst, arith}
+use Rattle.std.specs.Result.{MatchResult, IsErrAnd}
 use Rattle.rfc4180.specs.declared.fault.Fault.TheVariants.{TooLong, Syntax}
 use Rattle.rfc4180.specs.declared.fault.Fault as csv-fault
 use Rattle.rfc4180.specs.declared.reader.Reader.{Reader}
@@ -17,9 +17,8 @@ use Rattle.feeder.specs.View.{lines_of, metered_of, Stands}
 use Rattle.feeder.proofs.Maps.{map_feeder, map_stands}
 use Rattle.files.specs.declared.fault.FileFault.{FileFault}
 use Rattle.files.specs.declared.fault.FileFault.TheVariants.{Bytes, Unreached}
-use Rattle.maps.specs.declared.LineList.{LineList}
 use Rattle.maps.specs.Lines.{map_lines}
-use Rattle.maps.specs.Reading.{front_of, front_in, fault_bus, drawn, unreached, MapOutcome, MapReading, long, broken, read}
+use Rattle.maps.specs.Reading.{fault_bus, drawn, unreached, MapOutcome, MapReading, long, broken, read}
 use Rattle.maps.proofs.Facts.{map_wired, no_flaw, file_few}
 
 -- the lines of a file are refused only where a bus does not reach the substation
@@ -29,12 +28,10 @@ refused_lines F Overmetered few sound r = absurd (omega (arith, r.1))
 refused_lines F (Flawed b) few sound r = absurd (sound b r.2.0 r.2.1)
 refused_lines F (Beyond b) few sound r = r.3
 
--- the same of a part of the places from the first on
-pub refused_front : (n k : ℕ) (places : List Line) (fault : Fault) → k ≡ n → n ≤ length places → n ≤ 64 → ((b : ℕ) → Bus (take n places) b → IsFlawed (take n places) b → ⊥) → Refused n (take k places) fault → Lowest (take n places) (IsBeyond (take n places)) (fault_bus fault)
-refused_front n k places fault e room few sound r =
-    let size = length-take-le n places room in
-    let same = subst (λ t. Refused n (take t places) fault) e r in
-    refused_lines (take n places) fault (omega arith) sound (subst (λ t. Refused t (take n places) fault) (sym size) same)
+pub drawn_lines : (F : List Line) (r : Result Map Fault) (s : Result Map FileFault) → length F ≤ 64 → ((b : ℕ) → Bus F b → IsFlawed F b → ⊥) → MatchResult r (λ m. (metered_of m ≡ length F) × (lines_of m ≡ F)) (λ e. Refused (length F) F e) → MatchResult r (λ m. s ≡ Ok m) (λ e. IsErrAnd s (λ y. y ≡ Unreached (fault_bus e))) → MatchResult s (λ m. (lines_of m ≡ F) × (metered_of m ≡ length (lines_of m))) (λ e. (b : ℕ) × (e ≡ Unreached b) × Lowest F (IsBeyond F) b)
+drawn_lines F (Ok m) s few sound (metered, lines) e = rw e (lines, metered ∙ sym (ap length lines))
+drawn_lines F (Err fault) (Ok m) few sound refused e = absurd e
+drawn_lines F (Err fault) (Err y) few sound refused e = (fault_bus fault, e, refused_lines F fault few sound refused)
 
 pub few_records : (bytes : List ℕ) (reader : Reader) → Opening bytes (Ok reader) → length (left reader) ≤ 65537
 few_records bytes reader h = omega (arith, ap length h.1.records, file_few h.1.file bytes h.1.parse, h.0)
@@ -51,20 +48,20 @@ module _ (bytes : List ℕ) (old new : Map) (r : Result (Unit {0}) FileFault) (r
       read h.1.file h.0 h.1.parse (subst P h.1.records (subst Q e out))
 
 module _ (bytes : List ℕ) (reader : Reader) (h : Opening bytes (Ok reader)) where
-  pub map_unread : (m : Map) (fault : FileFault) → front_in (Err fault) ≡ map_lines (length bytes) (left reader) → MapReading bytes m m (Err fault)
+  pub map_unread : (m : Map) (fault : FileFault) → Err fault ≡ map_lines (length bytes) (left reader) → MapReading bytes m m (Err fault)
   map_unread m fault e = map_opened bytes m m (Err fault) reader h (Err fault) e (refl, refl)
 
-  module _ (l : LineList) (e : front_in (Ok l) ≡ map_lines (length bytes) (left reader)) where
-    pub map_sound : (b : ℕ) → Bus (front_of l) b → IsFlawed (front_of l) b → ⊥
-    map_sound = no_flaw (front_of l) (map_wired (length bytes) (left reader) (front_of l) (sym e)).0
+  module _ (lines : List Line) (e : Ok lines ≡ map_lines (length bytes) (left reader)) where
+    pub map_sound : (b : ℕ) → Bus lines b → IsFlawed lines b → ⊥
+    map_sound = no_flaw lines (map_wired (length bytes) (left reader) lines (sym e)).0
 
-    pub map_unreached : (m : Map) (fault : FileFault) → (b : ℕ) × (fault ≡ Unreached b) × Lowest (front_of l) (IsBeyond (front_of l)) b → MapReading bytes m m (Err fault)
-    map_unreached m fault (b, is, low) = map_opened bytes m m (Err fault) reader h (Ok (front_of l)) e (unreached b low (ap Err is, refl))
+    pub map_unreached : (m : Map) (fault : FileFault) → (b : ℕ) × (fault ≡ Unreached b) × Lowest lines (IsBeyond (lines)) b → MapReading bytes m m (Err fault)
+    map_unreached m fault (b, is, low) = map_opened bytes m m (Err fault) reader h (Ok lines) e (unreached b low (ap Err is, refl))
 
-    pub map_drawn : (old new : Map) → (lines_of new ≡ front_of l) × (metered_of new ≡ length (lines_of new)) → MapReading bytes old new (Ok tt)
-    map_drawn old new (lines, metered) = map_opened bytes old new (Ok tt) reader h (Ok (front_of l)) e (drawn refl lines (metered ∙ ap length lines))
+    pub map_drawn : (old new : Map) → (lines_of new ≡ lines) × (metered_of new ≡ length (lines_of new)) → MapReading bytes old new (Ok tt)
+    map_drawn old new (same, metered) = map_opened bytes old new (Ok tt) reader h (Ok lines) e (drawn refl same (metered ∙ ap length same))
 
-    pub map_model : (new : Map) → lines_of new ≡ front_of l → Feeder (lines_of new) × Stands new
-    map_model new lines =
-        let some = (map_wired (length bytes) (left reader) (front_of l) (sym e)).1 in
-        (map_feeder new (omega (arith, ap length lines, some)), map_stands new)
+    pub map_model : (new : Map) → lines_of new ≡ lines → Feeder (lines_of new) × Stands new
+    map_model new same =
+        let some = (map_wired (length bytes) (left reader) lines (sym e)).1 in
+        (map_feeder new (omega (arith, ap length same, some)), map_stands new)

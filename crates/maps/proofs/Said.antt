@@ -11,14 +11,14 @@ use Rattle.rfc4180.specs.Opening.{Opening}
 use Rattle.rfc4180.specs.Views.{left}
 use Rattle.units.specs.Decimals.{bus_of, decimal_of}
 use Rattle.feeder.specs.declared.line.Line.{Line}
+use Rattle.files.proofs.Clash.{clash}
 use Rattle.files.specs.declared.fault.FileFault.TheVariants.{Header, FieldCount, Form, MapEntry}
 use Rattle.files.specs.Faults.{need}
+use Rattle.files.specs.Columns.{columns_from, columns_of}
 use Rattle.files.specs.Rows.{field_of}
 use Rattle.files.proofs.Changes.{need_ok, having_ok, after_ok}
-use Rattle.maps.specs.declared.LineList.{LineList}
-use Rattle.maps.specs.Columns.{map_column, right_map_column, map_header_from, map_header_of}
+use Rattle.maps.specs.Columns.{map_column, right_map_column, map_header_of}
 use Rattle.maps.specs.Lines.{next_of, upper_of, is_resistance, resistance_in, line_in, lines_in, map_lines}
-use Rattle.maps.specs.Reading.{front_of, front_in}
 use Rattle.maps.specs.Told.{Recorded, AllRecorded, MapTold}
 
 -- The header.
@@ -26,36 +26,39 @@ use Rattle.maps.specs.Told.{Recorded, AllRecorded, MapTold}
 abbrev texts : List Piece → List (List ℕ)
 texts ps = map (λ p. held p.content) ps
 
-column_said : (k end : ℕ) (p : Piece) (ps : List Piece) → map_header_from k end (p ∷ ps) ≡ Ok tt → (ltb k 3 ≡ true) × (held p.content ≡ map_column k) × (map_header_from (k + 1) end ps ≡ Ok tt)
-column_said k end p ps e =
-    let passed = need_ok (right_map_column k p.content) (Header p.start) (map_header_from (k + 1) end ps) tt e in
+column_said : (k n : ℕ) (p : Piece) (ps : List Piece) → columns_from right_map_column k (p ∷ ps) ≡ Ok n → (ltb k 3 ≡ true) × (held p.content ≡ map_column k) × (columns_from right_map_column (k + 1) ps ≡ Ok n)
+column_said k n p ps e =
+    let passed = need_ok (right_map_column k p.content) (Header p.start) (columns_from right_map_column (k + 1) ps) n e in
     let right = and_parts (ltb k 3) (bytes_eq (held p.content) (map_column k)) passed.0 in
     (right.0, (bytes_eq-Decides (held p.content) (map_column k)).0 right.1, passed.1)
 
-header_end : (k end : ℕ) → map_header_from k end [] ≡ Ok tt → eqb k 3 ≡ true
-header_end k end e = (need_ok (eqb k 3) (Header end) (Ok tt) tt e).0
-
-header_said : (end : ℕ) (ps : List Piece) → map_header_from 0 end ps ≡ Ok tt → texts ps ≡ codes "bus" ∷ codes "parent" ∷ codes "r" ∷ []
-header_said end [] e = absurd (both_ways false refl (header_end 0 end e))
-header_said end (a ∷ []) e = let x = column_said 0 end a [] e in absurd (both_ways false refl (header_end 1 end x.2))
-header_said end (a ∷ b ∷ []) e =
-    let x = column_said 0 end a (b ∷ []) e in
-    let y = column_said 1 end b [] x.2 in
-    absurd (both_ways false refl (header_end 2 end y.2))
-header_said end (a ∷ b ∷ c ∷ []) e =
-    let x = column_said 0 end a (b ∷ c ∷ []) e in
-    let y = column_said 1 end b (c ∷ []) x.2 in
-    let z = column_said 2 end c [] y.2 in
+three_said : (ps : List Piece) → columns_from right_map_column 0 ps ≡ Ok 3 → texts ps ≡ codes "bus" ∷ codes "parent" ∷ codes "r" ∷ []
+three_said [] e = absurd (let z : ◌≡◌ {A = ℕ} 0 3 = cc in omega arith)
+three_said (a ∷ []) e = let x = column_said 0 3 a [] e in absurd (let h = x.2 in let z : ◌≡◌ {A = ℕ} 1 3 = cc in omega arith)
+three_said (a ∷ b ∷ []) e =
+    let x = column_said 0 3 a (b ∷ []) e in
+    let y = column_said 1 3 b [] x.2 in
+    absurd (let h = y.2 in let z : ◌≡◌ {A = ℕ} 2 3 = cc in omega arith)
+three_said (a ∷ b ∷ c ∷ []) e =
+    let x = column_said 0 3 a (b ∷ c ∷ []) e in
+    let y = column_said 1 3 b (c ∷ []) x.2 in
+    let z = column_said 2 3 c [] y.2 in
     let first = x.1 in
     let second = y.1 in
     let third = z.1 in
     cc
-header_said end (a ∷ b ∷ c ∷ d ∷ ps) e =
-    let x = column_said 0 end a (b ∷ c ∷ d ∷ ps) e in
-    let y = column_said 1 end b (c ∷ d ∷ ps) x.2 in
-    let z = column_said 2 end c (d ∷ ps) y.2 in
-    let w = column_said 3 end d ps z.2 in
+three_said (a ∷ b ∷ c ∷ d ∷ ps) e =
+    let x = column_said 0 3 a (b ∷ c ∷ d ∷ ps) e in
+    let y = column_said 1 3 b (c ∷ d ∷ ps) x.2 in
+    let z = column_said 2 3 c (d ∷ ps) y.2 in
+    let w = column_said 3 3 d ps z.2 in
     absurd (both_ways false refl w.0)
+
+header_said : (ps : List Piece) → map_header_of ps ≡ Ok tt → texts ps ≡ codes "bus" ∷ codes "parent" ∷ codes "r" ∷ []
+header_said ps e =
+    let columns = after_ok (columns_of right_map_column ps) (λ k. need (eqb k 3) (Header (end_of ps)) (Ok tt)) tt e in
+    let three = eqb-true columns.0 3 (need_ok (eqb columns.0 3) (Header (end_of ps)) (Ok tt) tt columns.2).0 in
+    three_said ps (columns.1 ∙ ap Ok three)
 
 -- One record.
 
@@ -107,15 +110,15 @@ lines_said buses before (row ∷ rows) F e =
     (cut.0 ∷ rest.0, rest.1 ∙ append_assoc before (cut.0 ∷ []) rest.0, (line_said buses (length before + 1) row cut.0 cut.1, subst (λ n. AllRecorded (n + 1) rest.0 rows) (length_push before cut.0) rest.2))
 
 map_said : (bytes : ℕ) (records : List (List Piece)) (F : List Line) → map_lines bytes records ≡ Ok F → MapTold F records
-map_said bytes [] F e = absurd (let z : ◌≡◌ {A = ℕ} 0 1 = cc in omega arith)
+map_said bytes [] F e = clash cc
 map_said bytes (header ∷ rows) F e =
     let cut = after_ok (map_header_of header) (λ _. need (leb 1 (length rows)) (MapEntry bytes) (lines_in (length rows) [] rows)) F e in
     let passed = need_ok (leb 1 (length rows)) (MapEntry bytes) (lines_in (length rows) [] rows) F cut.2 in
     let rest = lines_said (length rows) [] rows F passed.1 in
-    (header_said (end_of header) header cut.1, subst (λ ls. AllRecorded 1 ls rows) (sym rest.1) rest.2)
+    (header_said header cut.1, subst (λ ls. AllRecorded 1 ls rows) (sym rest.1) rest.2)
 
 -- of the one file that the bytes write
-pub map_told : (bytes : List ℕ) (reader : Reader) → Opening bytes (Ok reader) → (l : LineList) → front_in (Ok l) ≡ map_lines (length bytes) (left reader) → (lines : List Line) → lines ≡ front_of l → (f : File) → Parse f bytes → MapTold lines (records_of f)
-map_told bytes reader h l e lines same f parse =
+pub map_told : (bytes : List ℕ) (reader : Reader) → Opening bytes (Ok reader) → (lines : List Line) → Ok lines ≡ map_lines (length bytes) (left reader) → (f : File) → Parse f bytes → MapTold lines (records_of f)
+map_told bytes reader h lines e f parse =
     let records = h.1.records ∙ sym (ap records_of (h.1.only f parse)) in
-    map_said (length bytes) (records_of f) lines (ap (map_lines (length bytes)) (sym records) ∙ sym e ∙ ap Ok (sym same))
+    map_said (length bytes) (records_of f) lines (ap (map_lines (length bytes)) (sym records) ∙ sym e)

@@ -1,10 +1,11 @@
 -- The header of a map file: bus, parent, r.
-use Rattle.std.specs.Prelude.{ℕ, zero, suc, ◌+◌, Bool, ◌&&◌, List, [], ◌∷◌, Ok, codes, Result, ◌==◌, nat_lt}
+use Rattle.std.specs.Prelude.{ℕ, zero, suc, Bool, ◌&&◌, List, Ok, codes, Result, ◌==◌, nat_lt}
 use Rattle.std.specs.Str.{bytes_eq}
 use Rattle.rfc4180.specs.Places.{Content, held, Piece, end_of}
 use Rattle.files.specs.declared.fault.FileFault.{FileFault}
 use Rattle.files.specs.declared.fault.FileFault.TheVariants.{Header}
-use Rattle.files.specs.Faults.{need}
+use Rattle.files.specs.Faults.{need, after}
+use Rattle.files.specs.Columns.{columns_of}
 
 -- the name of column k, counted from 0
 abbrev pub map_column : ℕ → List ℕ
@@ -16,10 +17,6 @@ map_column (suc (suc n)) = codes "r"
 abbrev pub right_map_column : ℕ → Content → Bool
 right_map_column k content = nat_lt k 3 && bytes_eq (held content) (map_column k)
 
--- the check of a header from field k on; `end` is where its last field ends
-abbrev pub map_header_from : ℕ → ℕ → List Piece → Result (Unit {0}) FileFault
-map_header_from k end [] = need (k == 3) (Header end) (Ok tt)
-map_header_from k end (p ∷ ps) = need (right_map_column k p.content) (Header p.start) (map_header_from (k + 1) end ps)
-
+-- the check of a header; where there are fewer than three columns, the fault is at the end of the last field
 abbrev pub map_header_of : List Piece → Result (Unit {0}) FileFault
-map_header_of ps = map_header_from 0 (end_of ps) ps
+map_header_of ps = after (columns_of right_map_column ps) (λ k. need (k == 3) (Header (end_of ps)) (Ok tt))

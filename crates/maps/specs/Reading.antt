@@ -1,5 +1,6 @@
 -- What reading a map file answers, and which map then fills the place.
-use Rattle.std.specs.Prelude.{◌≡◌, ℕ, ◌<◌, ◌≤◌, List, length, take, Ok, Err, Result}
+use Rattle.std.specs.Prelude.{◌≡◌, ℕ, ◌<◌, ◌≤◌, List, length, Ok, Err, Result}
+use Rattle.arrayvec.specs.ArrayVec.{ArrayVec}
 use Rattle.rfc4180.specs.declared.fault.Fault.TheVariants.{TooLong, Syntax}
 use Rattle.rfc4180.specs.Grammar.{File, Impossible}
 use Rattle.rfc4180.specs.Places.{Parse, records_of}
@@ -11,16 +12,12 @@ use Rattle.feeder.specs.Build.{IsBeyond, Lowest}
 use Rattle.feeder.specs.View.{lines_of, metered_of}
 use Rattle.files.specs.declared.fault.FileFault.{FileFault}
 use Rattle.files.specs.declared.fault.FileFault.TheVariants.{Bytes, Unreached}
-use Rattle.maps.specs.declared.LineList.{LineList}
 use Rattle.maps.specs.Lines.{map_lines}
 
--- the lines at the front of their places
-abbrev pub front_of : LineList → List Line
-front_of l = take l.buses l.places
-
-abbrev pub front_in : Result LineList FileFault → Result (List Line) FileFault
-front_in (Ok l) = Ok (front_of l)
-front_in (Err fault) = Err fault
+-- the lines that were read, or the fault
+abbrev pub items_in : Result (ArrayVec Line) FileFault → Result (List Line) FileFault
+items_in (Ok lines) = Ok lines.items
+items_in (Err fault) = Err fault
 
 -- the bus that a fault of lines names, 0 where it names none
 abbrev pub fault_bus : Fault → ℕ

@@ -3,15 +3,12 @@ ghost use Rattle.std.specs.Prelude.{◌≡◌, ◌≤◌, OnOk};
 ghost use Rattle.rfc4180.specs.Views.{piece};
 ghost use Rattle.maps.specs.Lines.{next_of, upper_of, resistance_in};
 
-use files::{FileFault, bus_field, decimal_field};
+use files::{FileFault, MOST_BUSES, bus_field, decimal_field};
 use rfc4180::Field;
 use units::Scale;
 
-// The most buses of a map file.
-const MOST_BUSES: usize = 64;
-
 // The largest resistance, in millionths.
-const MOST_RESISTANCE: i64 = 1_000_000;
+const MOST_RESISTANCE: u32 = 1_000_000;
 
 // Checks that a record's bus is the next one.
 pub(crate) fn read_next(field: Field<'_>, next: usize) -> Result<(), FileFault>
@@ -19,9 +16,7 @@ pub(crate) fn read_next(field: Field<'_>, next: usize) -> Result<(), FileFault>
     ensures few { OnOk result (next ≤ 64) }
 {
     let at = field.start();
-    let Some(bus) = bus_field(field) else {
-        return Err(FileFault::Form { at });
-    };
+    let bus = bus_field(field).ok_or(FileFault::Form { at })?;
     if bus != next || bus > MOST_BUSES {
         return Err(FileFault::MapEntry { at });
     }
@@ -33,9 +28,7 @@ pub(crate) fn read_parent(field: Field<'_>, buses: usize) -> Result<usize, FileF
     ensures { result ≡ upper_of buses (piece field.entry) }
 {
     let at = field.start();
-    let Some(bus) = bus_field(field) else {
-        return Err(FileFault::Form { at });
-    };
+    let bus = bus_field(field).ok_or(FileFault::Form { at })?;
     if bus > buses {
         return Err(FileFault::MapEntry { at });
     }
@@ -47,11 +40,10 @@ pub(crate) fn read_resistance(field: Field<'_>) -> Result<u32, FileFault>
     ensures { result ≡ resistance_in (piece field.entry) }
 {
     let at = field.start();
-    let Some(value) = decimal_field(field, Scale::Millionths) else {
-        return Err(FileFault::Form { at });
-    };
-    if value < 1 || value > MOST_RESISTANCE {
+    let value = decimal_field(field, Scale::Millionths).ok_or(FileFault::Form { at })?;
+    let resistance = u32::try_from(value).map_err(|_| FileFault::MapEntry { at })?;
+    if !(1..=MOST_RESISTANCE).contains(&resistance) {
         return Err(FileFault::MapEntry { at });
     }
-    Ok(value as u32)
+    Ok(resistance)
 }

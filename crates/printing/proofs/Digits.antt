@@ -35,7 +35,7 @@ pub short_text : (n : ℕ) → every text_data (short_number n) ≡ true
 short_text n = digits_text (short_number n) (short_digits n)
 
 -- what the digits behind the point count
-abbrev behind : List ℕ
+abbrev pub behind : List ℕ
 behind = 100000 ∷ 10000 ∷ 1000 ∷ 100 ∷ 10 ∷ 1 ∷ []
 
 pub per_unit_text : (n : ℕ) → every text_data (per_unit n) ≡ true

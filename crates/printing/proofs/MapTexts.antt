@@ -5,8 +5,8 @@ use Rattle.std.proofs.lemmas.Bool.{cond_both}
 use Rattle.feeder.specs.declared.line.Line.{Line}
 use Rattle.feeder.specs.declared.map.Map.{Map}
 use Rattle.feeder.specs.View.{lines_of}
-use Rattle.feeder.specs.Feeder.{Bus, blank, parent_of, resistance_of}
-use Rattle.feeder.proofs.Maps.{count, line_at, parents, map_stands}
+use Rattle.feeder.specs.Feeder.{Bus, parent_of, resistance_of}
+use Rattle.feeder.proofs.Maps.{parents, map_stands}
 use Rattle.printing.specs.Texts.{new_line}
 use Rattle.printing.specs.MapTexts.{short_number, per_unit, line_text, lines_text, map_text, MapsAreShort, NumbersAreTold}
 use Rattle.printing.proofs.Digits.{short_back, per_unit_back}
@@ -50,10 +50,7 @@ maps_are_short m = (omega (arith, lines_length 1 (lines_of m), (map_stands m).co
 
 -- no line of a map has a resistance beyond 1,000,000
 pub resistance_most : (m : Map) (b : ℕ) → Bus (lines_of m) b → resistance_of (lines_of m) b ≤ 1000000
-resistance_most m b bus =
-    let within : b ≤ m.buses = omega (arith, bus.1, count m) in
-    let line = ap (λ (l : Line). l.resistance) (line_at m b bus.0 within blank) in
-    omega (arith, line, m.measured b bus.0 within, m.near b within)
+resistance_most m b bus = omega (arith, m.measured b bus, m.near b bus.1)
 
 pub numbers_are_told : NumbersAreTold
 numbers_are_told m b bus =

@@ -5,10 +5,11 @@ use Rattle.std.proofs.lemmas.Fmt.{decimal_is_IsNumeral}
 use Rattle.refusals.specs.declared.Layer.{Layer}
 use Rattle.refusals.specs.declared.Layer.TheVariants.{File, Source, Campaign, Drawing}
 use Rattle.printing.specs.Texts.{new_line}
-use Rattle.printing.specs.RefusalTexts.{layer_name, RefusalsAreShort, RefusalsAreTold}
-use Rattle.printing.proofs.Numbers.{three_digits, twenty_digits}
+use Rattle.refusals.specs.Texts.{layer_name}
+use Rattle.printing.specs.RefusalTexts.{RefusalsAreShort, RefusalsAreTold}
+use Rattle.printing.proofs.Numbers.{three_long, twenty_digits}
 
-name_short : (l : Layer) → length (layer_name l) ≤ 8
+pub name_short : (l : Layer) → length (layer_name l) ≤ 8
 name_short File = omega arith
 name_short Source = omega arith
 name_short Campaign = omega arith
@@ -19,7 +20,7 @@ refusals_are_short r number place =
     omega (
       arith,
       name_short r.layer,
-      three_digits r.number number,
+      three_long r.number (omega (arith, number)),
       twenty_digits r.place place,
       length-append (layer_name r.layer) (0x2C ∷ (decimal r.number ++ 0x2C ∷ (decimal r.place ++ new_line))),
       length-append (decimal r.number) (0x2C ∷ (decimal r.place ++ new_line)),

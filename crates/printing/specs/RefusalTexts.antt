@@ -1,16 +1,9 @@
 -- The text of a refusal: a header, and a record of its layer, number and place, each ended by CR LF.
 use Rattle.std.specs.Prelude.{◌≡◌, ℕ, ◌^◌, ◌<◌, ◌≤◌, List, ◌∷◌, ◌++◌, length, codes, decimal}
 use Rattle.std.specs.Str.Parse.{digits_value}
-use Rattle.refusals.specs.declared.Layer.{Layer}
-use Rattle.refusals.specs.declared.Layer.TheVariants.{File, Source, Campaign, Drawing}
 use Rattle.refusals.specs.declared.Refusal.{Refusal}
+use Rattle.refusals.specs.Texts.{layer_name}
 use Rattle.printing.specs.Texts.{new_line}
-
-abbrev pub layer_name : Layer → List ℕ
-layer_name File = codes "file"
-layer_name Source = codes "source"
-layer_name Campaign = codes "campaign"
-layer_name Drawing = codes "drawing"
 
 -- the record of a refusal; numbers are in base ten without leading zeros
 abbrev pub record_text : Refusal → List ℕ

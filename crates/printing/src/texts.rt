@@ -1,47 +1,61 @@
-// Texts put at places of a buffer that has room for them.
-ghost use Rattle.std.specs.Prelude.{◌≡◌, ◌+◌, ◌≤◌, ◌++◌, length, take, decimal};
+// Texts of a fixed room, put together part by part and written into a buffer.
+ghost use Rattle.std.specs.Prelude.{◌≡◌, ◌+◌, ◌≤◌, [], ◌++◌, length};
+ghost use Rattle.arrayvec.specs.ArrayVec.{array_vec_len};
 ghost use Rattle.printing.specs.Texts.{Writing};
 
+use arrayvec::ArrayVec;
 use files::FileFault;
+use itoa::{Buffer, Integer};
 
 // The end of every line.
 pub(crate) const NEW_LINE: &[u8] = b"\r\n";
 
 pub(crate) const COMMA: &[u8] = b",";
 
-// Puts a text at a place of a buffer, and says where it ends.
-pub(crate) fn put_at(out: &mut [u8], at: usize, text: &[u8]) -> usize
-    requires { at + length text.now ≤ length out.old }
-    ensures front { take result out.new ≡ take at out.old ++ text.now }
-    ensures end { result ≡ at + length text.now }
-{
-    let end = at + text.len();
-    out[at..end].copy_from_slice(text);
-    end
+// A text of at most `N` bytes.
+#[derive(Drop)]
+pub(crate) struct Text<const N: usize> {
+    bytes: ArrayVec<u8, N>,
 }
 
-// Puts a number in base ten without leading zeros.
-pub(crate) fn put_decimal(out: &mut [u8], at: usize, n: usize) -> usize
-    requires { at + length (decimal n) ≤ length out.old }
-    ensures front { take result out.new ≡ take at out.old ++ decimal n }
-    ensures end { result ≡ at + length (decimal n) }
-{
-    if n < 10 {
-        put_at(out, at, &[b'0' + n as u8])
-    } else {
-        let last = put_decimal(out, at, n / 10);
-        put_at(out, last, &[b'0' + (n % 10) as u8])
+impl<const N: usize> Text<N> {
+    // The empty text.
+    pub(crate) fn new() -> Text<N>
+        ensures bytes { result.bytes.items ≡ [] }
+        ensures len { array_vec_len result.bytes ≡ 0 }
+    {
+        Text {
+            bytes: ArrayVec::new(),
+        }
     }
-}
 
-// Puts a text at the front of a buffer, or says how long it is; a buffer that is too short stays as it was.
-pub(crate) fn write_text(text: &[u8], out: &mut [u8]) -> Result<usize, FileFault>
-    ensures { Writing text.now out.old out.new result }
-{
-    let needed = text.len();
-    if out.len() < needed {
-        return Err(FileFault::ShortBuffer { needed });
+    // Appends a part.
+    pub(crate) fn push(&mut self, part: &[u8])
+        requires { array_vec_len self.old.bytes + length part.now ≤ N }
+        ensures bytes { self.new.bytes.items ≡ self.old.bytes.items ++ part.now }
+        ensures len { array_vec_len self.new.bytes ≡ array_vec_len self.old.bytes + length part.now }
+    {
+        self.bytes.try_extend_from_slice(part).unwrap();
     }
-    out[0..needed].copy_from_slice(text);
-    Ok(needed)
+
+    // Appends a number in base ten without leading zeros.
+    pub(crate) fn push_number<I: Integer>(&mut self, n: I)
+        requires { array_vec_len self.old.bytes + length (I.text n) ≤ N }
+        ensures bytes { self.new.bytes.items ≡ self.old.bytes.items ++ I.text n }
+        ensures len { array_vec_len self.new.bytes ≡ array_vec_len self.old.bytes + length (I.text n) }
+    {
+        self.push(Buffer::new().format(n).as_bytes());
+    }
+
+    // Puts the text at the front of a buffer and says how long it is; a buffer that is too short stays as it was.
+    pub(crate) fn write_to(&self, out: &mut [u8]) -> Result<usize, FileFault>
+        ensures { Writing self.now.bytes.items out.old out.new result }
+    {
+        let needed = self.bytes.len();
+        if out.len() < needed {
+            return Err(FileFault::ShortBuffer { needed });
+        }
+        out[..needed].copy_from_slice(self.bytes.as_slice());
+        Ok(needed)
+    }
 }

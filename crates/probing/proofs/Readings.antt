@@ -1,7 +1,7 @@
 -- Reading every meter in bus order fills the list of readings, or finds the lowest mute bus.
-use Rattle.std.proofs.Common.{◌≡◌, ℕ, zero, suc, ◌+◌, ◌-◌, ◌<◌, ◌≤◌, Bool, true, false, cond, not, ◌&&◌, leb, List, length, get_or, set, replicate, ℤ, pos, Some, None, Ok, Err, Option, Result, sym, refl, ap, ◌∙◌, subst, inl, inr, add-one, arith, length-set, get_or-set_other, get_or-set_same}
+use Rattle.std.proofs.Common.{◌≡◌, ℕ, zero, suc, ◌+◌, ◌-◌, ◌<◌, ◌≤◌, Bool, true, false, cond, not, ◌&&◌, leb, List, ◌++◌, length, get_or, set, drop, replicate, ℤ, pos, Some, None, Ok, Err, Option, Result, sym, refl, ap, ◌∙◌, inl, inr, add-one, arith, length-set, get_or-set_other, get_or-set_same}
 use Rattle.std.proofs.lemmas.List.FromFn.{length-map-range_with_len, get_or-map-range_with_len}
-use Rattle.std.proofs.lemmas.List.{same_lists, get_or_default, length-replicate, get_or-replicate}
+use Rattle.std.proofs.lemmas.List.{same_lists, get_or_default, length-replicate, length-append, length-drop, get_or-replicate, get_or-drop, get_or_append_left, get_or-append_right}
 use Rattle.std.proofs.lemmas.Bool.{cases_lt, cases_eq, cond-true, cond-false, le-leb, lt-leb, not-true, not-false, and_parts, and_cases, and_from, both_ways}
 use Rattle.probing.specs.declared.fault.SourceFault.{SourceFault}
 use Rattle.probing.specs.declared.fault.SourceFault.TheVariants.{Unreadable}
@@ -54,6 +54,22 @@ filled_all last g xs few h =
       | inl metered ↦ h.told k metered ∙ sym (per_bus_metered last g k d under metered)
       | inr past ↦ h.rest k past under ∙ sym (per_bus_outside last g k d under past)
     ])
+
+-- voltages to the last metered bus, before what is left of 64 zeros
+pub filled_before : (last : ℕ) (g : ℕ → ℤ) (xs : List ℤ) → last ≤ 64 → length xs ≡ last → ((k : ℕ) → k < last → get_or xs k (pos 0) ≡ g (k + 1)) → xs ++ drop last (replicate 64 (pos 0)) ≡ per_bus last g
+filled_before last g xs few long told =
+    filled_all last g (xs ++ behind) few
+    record {
+      long = omega (arith, long, few, length-append xs behind, length-drop last zeros, length-replicate 64 (pos 0));
+      told = λ k under. get_or_append_left xs behind (pos 0) k (omega (arith, long)) ∙ told k under;
+      rest = λ k past under. get_or-append_right xs behind last k (pos 0) long past ∙ get_or-drop last zeros (k - last) (pos 0) ∙ get_or-replicate 64 (last + (k - last)) (pos 0) (pos 0) (omega arith);
+    }
+  where
+    zeros : List ℤ
+    zeros = replicate 64 (pos 0)
+
+    behind : List ℤ
+    behind = drop last zeros
 
 -- the lowest that passes
 
@@ -109,10 +125,8 @@ pub metered_here : (f : Facts) (i : ℕ) → i < f.buses → metered f (i + 1) �
 metered_here f i lt = and_from _ _ (le-leb 1 (i + 1) (omega arith)) (le-leb (i + 1) f.buses (omega arith))
 
 -- reading all: the end of the loop, and its way out
-pub read_all_live : (f : Facts) (i : ℕ) (xs : List ℤ) → f.buses ≤ 64 → i ≡ f.buses → lowest i f.mute ≡ None → Filled (voltage f) i xs → Ok xs ≡ read_all_of f
-read_all_live f i xs few same none h =
-    ap Ok (filled_all f.buses (voltage f) xs few (subst (λ k. Filled (voltage f) k xs) same h)) ∙
-    ap (λ o. heard o (per_bus f.buses (voltage f))) (sym none ∙ ap (λ k. lowest k f.mute) same)
+pub read_all_live : (f : Facts) (xs : List ℤ) → xs ≡ per_bus f.buses (voltage f) → lowest f.buses f.mute ≡ None → Ok xs ≡ read_all_of f
+read_all_live f xs is none = ap Ok is ∙ ap (λ o. heard o (per_bus f.buses (voltage f))) (sym none)
 
 pub read_all_mute : (f : Facts) (i : ℕ) (e : SourceFault) → i < f.buses → lowest i f.mute ≡ None → Err e ≡ read_of f (i + 1) → Err e ≡ read_all_of f
 read_all_mute f i e lt none h =

@@ -2,10 +2,9 @@
 use Rattle.std.proofs.Common.{◌≡◌, ℕ, zero, suc, ◌+◌, ◌*◌, ◌<◌, ◌≤◌, true, cond, ℤ, pos, ◌+ℤ◌, ◌*ℤ◌, nat_abs, sym, refl, ap, ◌∙◌, subst, inl, inr, add-one, arith}
 use mathlib.Core.Path.{fun_ext}
 use lib.IntN.{*ℤ-zero}
-use Rattle.std.proofs.lemmas.Int.{ints}
+use Rattle.std.proofs.lemmas.Int.{ints, unsigned_abs-mul}
 use Rattle.std.proofs.lemmas.Nat.{mul-le}
 use Rattle.std.proofs.lemmas.Bool.{cases_eq, cases_Bool, cond-true, cond-false, leb-true, eq-eqb, ne_eqb, eqb-true, and_parts}
-use Rattle.units.proofs.Division.{abs_times}
 use Rattle.probing.specs.Facts.{Facts, Bounded, voltage, sum_to, share, replaced, with_settings, with_setting}
 use Rattle.probing.specs.Answers.{on_schedule}
 
@@ -95,7 +94,7 @@ voltage_moved f bounds m to n there zeroed =
 pub share_bounded : (f : Facts) → Bounded f → (n k : ℕ) → nat_abs (share f n k) ≤ 1000000000
 share_bounded f bounds n k =
     elim (cases_Bool (f.inverter k)) [
-      | inl there ↦ subst (λ z. nat_abs z ≤ 1000000000) (sym (cond-true _ _ _ there)) (omega (arith, abs_times (f.response n k) (f.setting k), mul-le (nat_abs (f.response n k)) (nat_abs (f.setting k)) 1000000 1000 (bounds.responses n k) (bounds.settings k)))
+      | inl there ↦ subst (λ z. nat_abs z ≤ 1000000000) (sym (cond-true _ _ _ there)) (omega (arith, unsigned_abs-mul (f.response n k) (f.setting k), mul-le (nat_abs (f.response n k)) (nat_abs (f.setting k)) 1000000 1000 (bounds.responses n k) (bounds.settings k)))
       | inr none ↦ subst (λ z. nat_abs z ≤ 1000000000) (sym (cond-false _ _ _ none)) (omega arith)
     ]
 

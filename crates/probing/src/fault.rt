@@ -24,29 +24,25 @@ pub enum SourceFault {
     StandingEntry { index: usize },
 }
 
-impl SourceFault {
-    pub fn refusal(self) -> Refusal
-        ensures { result ≡ refusal_of self }
-    {
-        match self {
-            SourceFault::NoInverter { bus } => refused(9, bus),
-            SourceFault::BadStep { inverter } => refused(10, inverter),
-            SourceFault::Unreadable { bus } => refused(12, bus),
-            SourceFault::OffSchedule { inverter } => refused(13, inverter),
-            SourceFault::MapSize { buses } => refused(21, buses),
-            SourceFault::InverterEntry { index } => refused(21, index),
-            SourceFault::StandingCount { length } => refused(21, length),
-            SourceFault::StandingEntry { index } => refused(21, index),
-        }
-    }
-}
+// The fault's number, layer and place.
+impl From<SourceFault> for Refusal {
+    ghost from_gives = { λ fault r. r ≡ refusal_of fault };
 
-fn refused(number: u8, place: usize) -> Refusal
-    ensures { result ≡ record { number = number; layer = Layer.Source; place = place } }
-{
-    Refusal {
-        number,
-        layer: Layer::Source,
-        place,
+    fn from(fault: SourceFault) -> Refusal {
+        let (number, place) = match fault {
+            SourceFault::NoInverter { bus } => (9, bus),
+            SourceFault::BadStep { inverter } => (10, inverter),
+            SourceFault::Unreadable { bus } => (12, bus),
+            SourceFault::OffSchedule { inverter } => (13, inverter),
+            SourceFault::MapSize { buses } => (21, buses),
+            SourceFault::InverterEntry { index } => (21, index),
+            SourceFault::StandingCount { length } => (21, length),
+            SourceFault::StandingEntry { index } => (21, index),
+        };
+        Refusal {
+            number,
+            layer: Layer::Source,
+            place,
+        }
     }
 }

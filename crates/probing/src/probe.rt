@@ -5,13 +5,14 @@ ghost use Rattle.probing.specs.Answers.{read_all_of, probe_of};
 use crate::fault::SourceFault;
 use crate::interface::Source;
 
-// Reads every meter in bus order: the voltage of bus n stands at n - 1, and 0 behind the last bus.
+// Reads every meter in bus order: the voltage of bus n stands at n - 1, and 0 behind the last bus. The places are fixed, since nothing
+// is allocated here.
 pub fn read_all<S: Source>(source: &S) -> Result<[i64; 64], SourceFault>
     ensures { result ≡ read_all_of (S.Source.facts source.now) }
 {
     let mut readings = [0; 64];
-    for i in 0..source.buses() {
-        readings[i] = source.read(i + 1)?;
+    for (index, reading) in readings[..source.buses()].iter_mut().enumerate() {
+        *reading = source.read(index + 1)?;
     }
     Ok(readings)
 }
@@ -23,8 +24,8 @@ fn changes(before: &[i64; 64], after: &[i64; 64]) -> [i64; 64]
     ensures told { (k : ℕ) → k < 64 → slice_index_or result k (pos 0) ≡ slice_index_or after.now k (pos 0) -ℤ slice_index_or before.now k (pos 0) }
 {
     let mut changes = [0; 64];
-    for i in 0..64 {
-        changes[i] = after[i] - before[i];
+    for (index, change) in changes.iter_mut().enumerate() {
+        *change = after[index] - before[index];
     }
     changes
 }

@@ -18,16 +18,6 @@ pub(crate) struct Change {
 }
 
 impl Change {
-    pub(crate) fn none() -> Change {
-        Change {
-            bus: 0,
-            inverter: 0,
-            both: false,
-            size: 0,
-            up: false,
-        }
-    }
-
     pub(crate) fn any(metered: usize, random: &mut Random) -> Change
         requires { 0 < metered }
     {
@@ -38,6 +28,7 @@ impl Change {
             1 + random.below(metered)
         };
         let both = random.flip();
+        // What is below the bound fits, so try_from would be no plainer.
         let size = 1 + random.below(3) as u64;
         let up = random.flip();
         Change {
@@ -65,17 +56,16 @@ impl Change {
             response - self.size
         }
     }
+}
 
-    // The response of a bus to an inverter.
-    fn told(&self, map: &Map, bus: usize, inverter: usize) -> u64
-        ensures { result < 2 ^ 33 }
-    {
-        let response = u64::from(map.response(bus, inverter).unwrap_or(0));
-        if self.is_at(bus, inverter) {
-            self.changed(response)
-        } else {
-            response
-        }
+// The response of a bus to an inverter, with the change if it is there.
+fn told(map: &Map, change: Option<&Change>, bus: usize, inverter: usize) -> u64
+    ensures { result < 2 ^ 33 }
+{
+    let response = u64::from(map.response(bus, inverter).unwrap_or(0));
+    match change {
+        Some(change) if change.is_at(bus, inverter) => change.changed(response),
+        _ => response,
     }
 }
 
@@ -100,17 +90,18 @@ fn write_voltage(text: &mut String, sign: &'static str, billionths: u64) -> io::
 fn write_record(
     text: &mut String,
     map: &Map,
-    change: &Change,
+    change: Option<&Change>,
     inverter: usize,
     random: &mut Random,
 ) -> io::Result<()> {
+    // What is below the bound fits, so try_from would be no plainer.
     let step = 1 + random.below(1_000) as u64;
     let sign = if random.flip() { "-" } else { "" };
     let whole = step / 1_000;
     let part = step % 1_000;
     write!(text, "{inverter},{sign}{whole}.{part:03}")?;
     for bus in 1..=map.metered() {
-        write_voltage(text, sign, change.told(map, bus, inverter) * step)?;
+        write_voltage(text, sign, told(map, change, bus, inverter) * step)?;
     }
     write!(text, "\r\n")?;
     Ok(())
@@ -120,18 +111,15 @@ fn write_record(
 pub(crate) fn file_of(
     heap: Global,
     map: &Map,
-    change: &Change,
+    change: Option<&Change>,
     random: &mut Random,
 ) -> io::Result<String> {
     let metered = map.metered();
     let mut text = String::new(heap);
     write_header(&mut text, metered)?;
     let first = random.below(metered.max(1));
-    for i in first..metered {
-        write_record(&mut text, map, change, i + 1, random)?;
-    }
-    for i in 0..first {
-        write_record(&mut text, map, change, i + 1, random)?;
+    for inverter in (first + 1..=metered).chain(1..=first) {
+        write_record(&mut text, map, change, inverter, random)?;
     }
     Ok(text)
 }

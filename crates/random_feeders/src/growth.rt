@@ -1,70 +1,59 @@
 // Random feeders, grown bus by bus.
-ghost use Rattle.std.specs.Prelude.{◌≤◌};
-
 use crate::plan::Plan;
 use crate::random::Random;
-use feeder::{Fault, Line, MOST_BUSES, Map};
+use feeder::{Line, Map};
+use std::alloc::{AllocError, Global};
 
-// The buses in the order of their numbers, or with the unmetered ones first.
-fn in_order(plan: &Plan) -> [usize; MOST_BUSES] {
-    let buses = plan.buses();
-    let first = if plan.unmetered_first {
-        plan.metered
-    } else {
-        0
-    };
-    let mut order = [0; MOST_BUSES];
-    for k in 0..buses {
-        order[k] = (k + first) % buses + 1;
-    }
-    order
-}
-
-// Mixes a part of the list.
-fn mix(order: &mut [usize; MOST_BUSES], from: usize, to: usize, random: &mut Random)
-    requires { to ≤ 127 }
-{
-    for i in from..to {
-        let j = i + random.below(to - i);
-        order.swap(i, j);
+// Mixes the buses of a list.
+fn mix(buses: &mut [usize], random: &mut Random) {
+    for i in 0..buses.len() {
+        let j = i + random.below(buses.len() - i);
+        buses.swap(i, j);
     }
 }
 
-// The buses in the order of their joining.
-fn mixed(plan: &Plan, random: &mut Random) -> [usize; MOST_BUSES] {
-    let mut order = in_order(plan);
-    if plan.unmetered_first {
-        mix(&mut order, 0, plan.unmetered, random);
-        mix(&mut order, plan.unmetered, plan.buses(), random);
-    } else {
-        mix(&mut order, 0, plan.buses(), random);
+// The buses in the order of their joining: the unmetered ones first, or all mixed.
+fn in_order(heap: Global, plan: &Plan, random: &mut Random) -> Result<Vec<usize>, AllocError> {
+    if !plan.unmetered_first {
+        let mut order: Vec<usize> = (1..=plan.buses()).collect(heap)?;
+        mix(order.as_mut_slice(), random);
+        return Ok(order);
     }
-    order
+    let mut order: Vec<usize> = (plan.metered + 1..=plan.buses()).collect(heap)?;
+    mix(order.as_mut_slice(), random);
+    let mut metered: Vec<usize> = (1..=plan.metered).collect(heap)?;
+    mix(metered.as_mut_slice(), random);
+    order.extend(metered)?;
+    Ok(order)
 }
 
-fn put(lines: &mut [Line; MOST_BUSES], bus: usize, line: Line) {
-    if bus >= 1 && bus <= MOST_BUSES {
-        lines[bus - 1] = line;
-    }
-}
-
-fn grown_lines(plan: &Plan, random: &mut Random) -> [Line; MOST_BUSES] {
-    let order = mixed(plan, random);
-    let mut lines = [Line {
-        parent: 0,
-        resistance: 1,
-    }; MOST_BUSES];
-    for k in 0..plan.buses() {
-        let joint = plan.joint(k, random);
-        let parent = if joint == 0 { 0 } else { order[joint - 1] };
+// The line of each bus at the place of its number.
+fn grown_lines(heap: Global, plan: &Plan, random: &mut Random) -> Result<Vec<Line>, AllocError> {
+    let order = in_order(heap, plan, random)?;
+    let mut lines = vec![in heap; Line::default(); plan.buses() + 1]?;
+    for (there, bus) in order.iter().enumerate() {
+        let joint = plan.joint(there, random);
+        let parent = match joint.checked_sub(1) {
+            Some(place) => order[place],
+            None => 0,
+        };
         let resistance = plan.resistance(random);
-        put(&mut lines, order[k], Line { parent, resistance });
+        if let Some(line) = lines.get_mut(*bus) {
+            *line = Line { parent, resistance };
+        }
     }
-    lines
+    Ok(lines)
 }
 
-// The map of a random feeder.
-pub(crate) fn grow(plan: &Plan, random: &mut Random) -> Result<Map, Fault> {
-    let lines = grown_lines(plan, random);
-    Map::from_lines(plan.metered, &lines[0..plan.buses()])
+// The map of a random feeder, if it is one.
+pub(crate) fn grow(
+    heap: Global,
+    plan: &Plan,
+    random: &mut Random,
+) -> Result<Option<Map>, AllocError> {
+    let lines = grown_lines(heap, plan, random)?;
+    Ok(match lines.as_slice() {
+        [_, lines @ ..] => Map::from_lines(plan.metered, lines).ok(),
+        [] => None,
+    })
 }

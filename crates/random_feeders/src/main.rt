@@ -56,10 +56,10 @@ fn show_feeder(
     plan: &Plan,
     random: &mut Random,
 ) -> io::Result<()> {
-    let Ok(map) = grow(plan, random) else {
+    let Some(map) = grow(rt.alloc(), plan, random)? else {
         return println!(rt; "feeder {number}: no map");
     };
-    let file = file_of(rt.alloc(), &map, &Change::none(), random)?;
+    let file = file_of(rt.alloc(), &map, None, random)?;
     print_answer(rt, number, "reduced", reduced(file.as_bytes()))?;
     if map.buses() <= 64 {
         print_answer(rt, number, "complete", complete(rt.alloc(), &map, random)?)?;
@@ -74,11 +74,11 @@ fn show_changed(
     plan: &Plan,
     random: &mut Random,
 ) -> io::Result<()> {
-    let Ok(map) = grow(plan, random) else {
+    let Some(map) = grow(rt.alloc(), plan, random)? else {
         return println!(rt; "feeder {number}: no map");
     };
     let change = Change::any(plan.metered, random);
-    let file = file_of(rt.alloc(), &map, &change, random)?;
+    let file = file_of(rt.alloc(), &map, Some(&change), random)?;
     print_answer(rt, number, "changed", reduced(file.as_bytes()))
 }
 

@@ -1,10 +1,10 @@
 // What a random feeder is to look like.
-ghost use Rattle.std.specs.Prelude.{◌≡◌, ◌+◌, ◌<◌, ◌≤◌};
+ghost use Rattle.std.specs.Prelude.{◌≡◌, ◌+◌, ◌^◌, ◌<◌, ◌≤◌};
 
 use crate::random::Random;
 
 // Where each bus joins those that are there.
-#[derive(Clone, Copy)]
+#[derive(Clone, Copy, PartialEq, Eq, Debug)]
 pub(crate) enum Shape {
     // At the bus before it.
     Chain,
@@ -20,18 +20,17 @@ pub(crate) enum Shape {
     Ends,
 }
 
-impl Shape {
-    fn any(random: &mut Random) -> Shape {
-        match random.below(8) {
-            0 => Shape::Chain,
-            1 => Shape::Star,
-            2 => Shape::Anywhere,
-            3 => Shape::Deep,
-            4 | 5 => Shape::Forks,
-            _ => Shape::Ends,
-        }
-    }
-}
+// The shapes, each as often as it is to come.
+const SHAPES: [Shape; 8] = [
+    Shape::Chain,
+    Shape::Star,
+    Shape::Anywhere,
+    Shape::Deep,
+    Shape::Forks,
+    Shape::Forks,
+    Shape::Ends,
+    Shape::Ends,
+];
 
 #[derive(Drop)]
 pub(crate) struct Plan {
@@ -79,22 +78,28 @@ impl Plan {
         }
     }
 
+    // Any shape.
+    fn any(metered: usize, unmetered: usize, random: &mut Random) -> Plan
+        requires some { 0 < metered }
+        requires few { metered + unmetered ≤ 127 }
+    {
+        let shape = *random.one_of(&SHAPES);
+        let unmetered_first = random.below(4) != 0;
+        Plan::new(metered, unmetered, shape, unmetered_first, random)
+    }
+
     // 1 to 12 metered buses.
     pub(crate) fn small(random: &mut Random) -> Plan {
         let metered = 1 + random.below(12);
         let unmetered = random.below(metered + 4);
-        let shape = Shape::any(random);
-        let unmetered_first = random.below(4) != 0;
-        Plan::new(metered, unmetered, shape, unmetered_first, random)
+        Plan::any(metered, unmetered, random)
     }
 
     // 20 to 64 metered buses.
     pub(crate) fn large(random: &mut Random) -> Plan {
         let metered = 20 + random.below(45);
         let unmetered = random.below(64);
-        let shape = Shape::any(random);
-        let unmetered_first = random.below(4) != 0;
-        Plan::new(metered, unmetered, shape, unmetered_first, random)
+        Plan::any(metered, unmetered, random)
     }
 
     // 64 metered buses below 63 unmetered ones with two lines down each.
@@ -110,7 +115,7 @@ impl Plan {
 
     // Which of the buses that are there the next one joins, counted from 1 in the order of their joining; 0 is the substation.
     pub(crate) fn joint(&self, there: usize, random: &mut Random) -> usize
-        requires { there < 127 }
+        requires { there + 1 < 2 ^ 64 }
         ensures { result ≤ there }
     {
         match self.shape {
@@ -125,6 +130,7 @@ impl Plan {
 
     pub(crate) fn resistance(&self, random: &mut Random) -> u32 {
         let resistance = self.least + random.below(self.most - self.least + 1);
+        // At most 1,000,000, so try_from would be no plainer.
         resistance as u32
     }
 }

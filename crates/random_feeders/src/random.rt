@@ -1,5 +1,5 @@
 // A linear congruential generator.
-ghost use Rattle.std.specs.Prelude.{◌<◌};
+ghost use Rattle.std.specs.Prelude.{◌<◌, length};
 
 const SEED: usize = 20_251;
 
@@ -22,6 +22,13 @@ impl Random {
     {
         self.state = self.state * 48_271 % 2_147_483_647;
         self.state % bound
+    }
+
+    // One of a list.
+    pub(crate) fn one_of<'a, T>(&mut self, list: &'a [T]) -> &'a T
+        requires { 0 < length list.now }
+    {
+        &list[self.below(list.len())]
     }
 
     // One of two.

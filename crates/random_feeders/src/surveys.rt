@@ -10,23 +10,21 @@ use survey::{survey_feeder, survey_file};
 // The reduced feeder of a response file.
 pub(crate) fn reduced(file: &[u8]) -> Result<Map, Refusal> {
     let mut map = Map::new();
-    match survey_file(file, Kind::Reduced, &mut map) {
-        Ok(()) => Ok(map),
-        Err(fault) => Err(fault.refusal()),
-    }
+    survey_file(file, Kind::Reduced, &mut map)?;
+    Ok(map)
 }
 
 // Inverters at the ends and at any other buses. About every eighth feeder has a bus that goes without, be it an end or not.
 fn inverters(heap: Global, map: &Map, random: &mut Random) -> io::Result<Vec<usize>> {
     let bare = if random.below(8) == 0 {
-        1 + random.below(map.buses().max(1))
+        Some(1 + random.below(map.buses().max(1)))
     } else {
-        0
+        None
     };
     let mut inverters = Vec::new(heap);
     for bus in 1..=map.buses() {
         let wanted = random.flip() || map.is_end(bus) == Some(true);
-        if wanted && bus != bare {
+        if wanted && bare != Some(bus) {
             inverters.push(bus)?;
         }
     }
@@ -37,6 +35,7 @@ fn inverters(heap: Global, map: &Map, random: &mut Random) -> io::Result<Vec<usi
 fn standing(heap: Global, map: &Map, random: &mut Random) -> io::Result<Vec<i64>> {
     let mut voltages = Vec::new(heap);
     for _ in 0..map.buses() {
+        // What is below the bound fits, so try_from would be no plainer.
         voltages.push(random.below(2_000_000_001) as i64 - 1_000_000_000)?;
     }
     Ok(voltages)
@@ -59,8 +58,5 @@ pub(crate) fn complete(
         &mut source,
         &mut drawn,
     );
-    Ok(match answer {
-        Ok(()) => Ok(drawn),
-        Err(fault) => Err(fault.refusal()),
-    })
+    Ok(answer.map(|()| drawn).map_err(Refusal::from))
 }

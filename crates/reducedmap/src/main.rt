@@ -10,8 +10,6 @@ fn main(rt: HostRuntime) -> io::Result<()> {
     let mut file = Vec::new(rt.alloc());
     rt.stdin().read_to_end(&mut file)?;
     let mut text = [0; 2_300];
-    match reducedmap(file.as_slice(), &mut text) {
-        Ok(length) => rt.stdout().write_all(&text[0..length]),
-        Err(_) => unreachable(),
-    }
+    let length = reducedmap(file.as_slice(), &mut text).unwrap();
+    rt.stdout().write_all(&text[..length])
 }

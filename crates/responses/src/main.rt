@@ -3,63 +3,48 @@
 #![tactic(auto)]
 
 use files::{Probe, Table};
-use refusals::{Layer, Refusal};
-use std::io;
+use refusals::Refusal;
 use std::io::Read;
+use std::{fmt, io};
+use units::Scale;
 
-fn layer_name(layer: Layer) -> &'static str {
-    match layer {
-        Layer::File => "file",
-        Layer::Source => "source",
-        Layer::Campaign => "campaign",
-        Layer::Drawing => "drawing",
+// A value of a scale, printed in per unit with all the digits of the scale.
+#[derive(Clone, Copy)]
+struct PerUnit(i64, Scale);
+
+impl fmt::Display for PerUnit {
+    fn fmt<W: fmt::Write>(&self, f: &mut fmt::Formatter<W>) -> fmt::Result {
+        let PerUnit(value, scale) = *self;
+        let places = scale.places();
+        // `as`: a `usize` has no `From` to the `u32` of `pow`, and a `TryFrom` would hand on an error that can't come.
+        let unit = 10u64.pow(places as u32);
+        let sign = if value < 0 { "-" } else { "" };
+        let whole = value.unsigned_abs() / unit;
+        let part = value.unsigned_abs() % unit;
+        write!(f, "{sign}{whole}.{part:0places$}")
     }
 }
 
-fn print_refusal(rt: &HostRuntime, refusal: Refusal) -> io::Result<()> {
-    let number = refusal.number;
-    let layer = layer_name(refusal.layer);
-    let place = refusal.place;
-    println!(rt; "refusal {number}, layer {layer}, place {place}")
-}
-
-// The sign that stands before a size.
-fn sign(value: i64) -> &'static str {
-    if value < 0 { "-" } else { "" }
-}
-
-fn print_step(rt: &HostRuntime, inverter: usize, step: i64) -> io::Result<()> {
-    let sign = sign(step);
-    let whole = step.unsigned_abs() / 1_000;
-    let part = step.unsigned_abs() % 1_000;
-    println!(rt; "inverter {inverter}: step {step} thousandths, {sign}{whole}.{part:03} per unit")
-}
-
-fn print_response(rt: &HostRuntime, bus: usize, response: i64) -> io::Result<()> {
-    let sign = sign(response);
-    let whole = response.unsigned_abs() / 1_000_000;
-    let part = response.unsigned_abs() % 1_000_000;
-    println!(rt; "  bus {bus}: {response} millionths, {sign}{whole}.{part:06} per unit")
-}
-
 fn print_probe(rt: &HostRuntime, inverter: usize, probe: &Probe, buses: usize) -> io::Result<()> {
-    print_step(rt, inverter, probe.step)?;
+    let step = probe.step;
+    let shown = PerUnit(step, Scale::Thousandths);
+    println!(rt; "inverter {inverter}: step {step} thousandths, {shown} per unit")?;
     for (i, response) in probe.responses.iter().take(buses).enumerate() {
-        print_response(rt, i + 1, *response)?;
+        let bus = i + 1;
+        let shown = PerUnit(*response, Scale::Millionths);
+        println!(rt; "  bus {bus}: {response} millionths, {shown} per unit")?;
     }
     Ok(())
 }
 
 fn print_mute(rt: &HostRuntime, table: &Table) -> io::Result<()> {
-    let mut some = false;
     for (i, mute) in table.mute.iter().enumerate() {
         if *mute {
             let bus = i + 1;
             println!(rt; "bus {bus}: mute")?;
-            some = true;
         }
     }
-    if some {
+    if table.mute.contains(&true) {
         Ok(())
     } else {
         println!(rt; "no bus is mute")
@@ -84,6 +69,6 @@ fn main(rt: HostRuntime) -> io::Result<()> {
     let mut table = Table::new();
     match table.read(bytes.as_slice()) {
         Ok(()) => print_table(&rt, &table),
-        Err(fault) => print_refusal(&rt, fault.refusal()),
+        Err(fault) => rt.println(Refusal::from(fault)),
     }
 }

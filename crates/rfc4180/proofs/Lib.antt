@@ -4,10 +4,9 @@ pub mod Complete
 pub mod Sound
 pub mod Decided
 pub mod Parses
-pub mod Fields
+pub mod Pieces
 pub mod Readings
 pub mod Unique
 pub mod Held
-pub mod Extents
-pub mod Onward
+pub mod Rows
 pub mod Quotes

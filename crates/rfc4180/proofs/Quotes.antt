@@ -1,5 +1,8 @@
 -- Bytes between quotes that hold no quote stand in the file just so.
-use Rattle.std.proofs.Common.{◌≡◌, ℕ, Bool, true, false, cond, not, ◌&&◌, eqb, List, [], ◌∷◌, Some, None, refl, ap, ◌∙◌, arith}
+use Rattle.std.proofs.Common.{◌≡◌, ℕ, Bool, true, false, cond, not, ◌&&◌, ◌||◌, ◌==◌, eqb, List, [], ◌∷◌, Some, None, Bor, sym, refl, ap, ◌∙◌, arith}
+use Rattle.std.specs.Bool.{then_some}
+use Rattle.std.specs.List.{list_any}
+use Rattle.std.specs.Option.{option_map}
 use Rattle.rfc4180.specs.Reading.{undoubled}
 use Rattle.rfc4180.specs.Places.{quotedly}
 use Rattle.rfc4180.specs.Views.{quoteless, text_of}
@@ -25,7 +28,15 @@ undoubled_same [] h = refl
 undoubled_same (x ∷ []) h = refl
 undoubled_same (x ∷ y ∷ ys) h = whole x y ys (eqb x 0x22) h (undoubled_same (y ∷ ys))
 
+pub quote_found : (xs : List ℕ) → list_any (λ b. b == 0x22) xs ≡ not (quoteless xs)
+quote_found [] = refl
+quote_found (x ∷ xs) = elim (x == 0x22) as (λ b. (b || list_any (λ b. b == 0x22) xs) ≡ not (not b && quoteless xs)) [ true ↦ refl | false ↦ quote_found xs ]
+
 -- what a quoted field holds, from its bytes as written
-pub quoted_text : (raw : List ℕ) (b : Bool) → quoteless raw ≡ b → text_of (quotedly (undoubled raw)) ≡ cond b (Some raw) None
+quoted_text : (raw : List ℕ) (b : Bool) → quoteless raw ≡ b → text_of (quotedly (undoubled raw)) ≡ cond b (Some raw) None
 quoted_text raw true e = ap (λ (t : Bool). cond t (Some (undoubled raw)) None) (same_quotes raw ∙ e) ∙ ap Some (undoubled_same raw e)
 quoted_text raw false e = ap (λ (t : Bool). cond t (Some (undoubled raw)) None) (same_quotes raw ∙ e)
+
+pub found_text : (bytes : Bor (List ℕ)) (found : Bool) → found ≡ not (quoteless bytes.now) → option_map (λ x. x.now) (then_some (not found) bytes) ≡ text_of (quotedly (undoubled bytes.now))
+found_text bytes true h = sym (quoted_text bytes.now false (grind arith))
+found_text bytes false h = sym (quoted_text bytes.now true (grind arith))

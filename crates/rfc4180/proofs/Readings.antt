@@ -5,7 +5,7 @@ use Rattle.rfc4180.specs.Grammar.{Field, plain, quoted, Record, lone, beside, Re
 use Rattle.rfc4180.specs.Places.{Piece, place_field, place_record, place_records, vacant, trailing, Parse, records_of}
 use Rattle.rfc4180.specs.Reading.{field_end, piece_at, fields_from, Extent, extent_at, record_at, records_at}
 use Rattle.rfc4180.proofs.Bounds.{extent_more, records_more}
-use Rattle.rfc4180.proofs.Fields.{Stop, Left, left_length, left_more, left_first, field_at}
+use Rattle.rfc4180.proofs.Pieces.{Stop, Left, left_length, left_more, left_first, field_at}
 
 abbrev pub count : Record → ℕ
 count (lone f) = 1

@@ -3,13 +3,14 @@ ghost use Rattle.rfc4180.specs.Automaton.{after_of, final, scan_of, step_of};
 ghost use Rattle.rfc4180.specs.Check.{Parsed, Verdict};
 ghost use Rattle.rfc4180.specs.declared.automaton.State.TheVariants.{Start};
 
-use crate::fault::Fault;
+use crate::Fault;
+use crate::scan::is_text;
 
 // How many bytes a file may have.
 const LIMIT: usize = 65_536;
 
 // Where in a file a byte stands.
-#[derive(Clone, Copy)]
+#[derive(Clone, Copy, PartialEq, Eq, Debug)]
 enum State {
     // where a field starts
     Start,
@@ -41,9 +42,7 @@ impl State {
     {
         match (self, byte) {
             (Self::Start, b'"') => Some(Self::Inside),
-            (Self::Start | Self::Plain, 0x20..=0x21 | 0x23..=0x2b | 0x2d..=0x7e) => Some(
-                Self::Plain,
-            ),
+            (Self::Start | Self::Plain, _) if is_text(byte) => Some(Self::Plain),
             (Self::Start | Self::Plain, _) => Self::after(byte),
             (Self::Inside, b'"') => Some(Self::Closed),
             (Self::Inside, b'\r' | b'\n' | 0x20..=0x7e) => Some(Self::Inside),
@@ -59,10 +58,7 @@ impl State {
     fn may_end(self) -> bool
         ensures { result ≡ final self }
     {
-        match self {
-            Self::Start | Self::Plain | Self::Closed => true,
-            Self::Inside | Self::Return => false,
-        }
+        matches!(self, Self::Start | Self::Plain | Self::Closed)
     }
 }
 
@@ -72,16 +68,12 @@ fn scan(file: &[u8]) -> Result<(), Fault>
 {
     let mut state = State::Start;
     for (at, byte) in file.iter().enumerate() {
-        match state.step(*byte) {
-            Some(next) => state = next,
-            None => return Err(Fault::Syntax { at }),
-        }
+        state = state.step(*byte).ok_or(Fault::Syntax { at })?;
     }
-    if state.may_end() {
-        Ok(())
-    } else {
-        Err(Fault::Syntax { at: file.len() })
+    if !state.may_end() {
+        return Err(Fault::Syntax { at: file.len() });
     }
+    Ok(())
 }
 
 // Whether the bytes are a file, or else why not.

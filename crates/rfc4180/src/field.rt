@@ -1,9 +1,9 @@
-ghost use Rattle.std.specs.Prelude.{◌≡◌, not};
+ghost use Rattle.std.specs.Prelude.{◌≡◌, ◌^◌, ◌<◌};
 ghost use Rattle.std.specs.Option.{option_map};
-ghost use Rattle.rfc4180.specs.Views.{piece, quoteless, text_of};
+ghost use Rattle.rfc4180.specs.Views.{piece, text_of};
 
 // A field of a file: it borrows the file's bytes and has the place of its first byte.
-#[derive(Clone, Copy)]
+#[derive(Clone, Copy, PartialEq, Eq, Debug)]
 pub enum Field<'a> {
     // Bytes with no quotes around them, at least one.
     Plain { bytes: &'a [u8], at: usize },
@@ -19,8 +19,18 @@ impl<'a> Field<'a> {
         ensures { result ≡ (piece self.entry).start }
     {
         match self {
-            Field::Plain { bytes: _, at } => at,
-            Field::Quoted { bytes: _, at } => at,
+            Field::Plain { at, .. } | Field::Quoted { at, .. } | Field::Blank { at } => at,
+        }
+    }
+
+    // The place after its last byte.
+    pub(crate) fn end(self) -> usize
+        requires { (piece self).end < 2 ^ 64 }
+        ensures { result ≡ (piece self.entry).end }
+    {
+        match self {
+            Field::Plain { bytes, at } => at + bytes.len(),
+            Field::Quoted { bytes, at } => at + 1 + bytes.len() + 1,
             Field::Blank { at } => at,
         }
     }
@@ -30,20 +40,9 @@ impl<'a> Field<'a> {
         ensures { option_map (λ x. x.now) result ≡ text_of (piece self.entry).content }
     {
         match self {
-            Field::Plain { bytes, at: _ } => Some(bytes),
-            Field::Quoted { bytes, at: _ } => { if has_quote(bytes) { None } else { Some(bytes) } }
-            Field::Blank { at: _ } => None,
+            Field::Plain { bytes, .. } => Some(bytes),
+            Field::Quoted { bytes, .. } => (!bytes.contains(&b'"')).then_some(bytes),
+            Field::Blank { .. } => None,
         }
     }
-}
-
-fn has_quote(bytes: &[u8]) -> bool
-    ensures { result ≡ not (quoteless bytes.now) }
-{
-    for b in bytes {
-        if *b == b'"' {
-            return true;
-        }
-    }
-    false
 }

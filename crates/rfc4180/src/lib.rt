@@ -5,10 +5,11 @@
 mod automaton;
 mod fault;
 mod field;
+mod place;
 mod reader;
 mod scan;
 
 pub use automaton::check;
 pub use fault::Fault;
 pub use field::Field;
-pub use reader::{Reader, Record};
+pub use reader::{Fields, Reader, Record};

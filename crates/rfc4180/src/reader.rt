@@ -1,99 +1,144 @@
-ghost use Rattle.std.specs.Prelude.{◌≡◌, [], ◌∷◌, IfSome, MatchOption};
-ghost use Rattle.rfc4180.specs.Opening.{Opening};
-ghost use Rattle.rfc4180.specs.Places.{outline_of};
-ghost use Rattle.rfc4180.specs.Views.{piece, outline, remaining, left};
+ghost use Rattle.std.specs.Prelude.{◌≡◌, ◌≤◌, length};
+ghost use Rattle.std.specs.Iterator.{YieldsFirstBy, item_count};
+ghost use Rattle.std.proofs.Props.{props};
+ghost use Rattle.rfc4180.specs.Places.{start_of, end_of, outline_of};
+ghost use Rattle.rfc4180.specs.Reading.{record_at};
 
-use crate::scan::{end_of, field_at, span_at};
+use crate::place::Place;
 use crate::{Fault, Field, check};
 
-// A checked file, and the place from which its records are still to be read.
+// The records of a checked file that are still to be read.
 #[derive(Drop)]
 pub struct Reader<'a> {
-    file: &'a [u8],
-    next: usize,
-    more: bool,
-}
-
-// A record of a checked file, and the place from which its fields are still to be read.
-#[derive(Clone, Copy)]
-pub struct Record<'a> {
-    file: &'a [u8],
-    fields: usize,
-    start: usize,
-    end: usize,
-    next: usize,
-    left: usize,
+    next: Option<Place<'a>>,
 }
 
 impl<'a> Reader<'a> {
+    ghost use Rattle.rfc4180.specs.Opening.{Opening};
+
     // A reader over a file, which exists only where the bytes are one.
     pub fn open(file: &'a [u8]) -> Result<Reader<'a>, Fault>
         ensures { Opening file.now result }
     {
         check(file)?;
         Ok(Reader {
-            file,
-            next: 0,
-            more: true,
-        })
-    }
-
-    // The next record; none where all are read.
-    pub fn record(&mut self) -> Option<Record<'a>>
-        ensures reads { MatchOption result ((left self.old ≡ []) × (left self.new ≡ [])) (λ row. left self.old ≡ remaining row ∷ left self.new) }
-        ensures whole { IfSome result (λ row. outline row ≡ outline_of (remaining row)) }
-    {
-        if !self.more || self.next > self.file.len() {
-            return None;
-        }
-        let start = self.next;
-        let span = span_at(self.file, start);
-        self.next = span.end + 2;
-        self.more = self.next < self.file.len();
-        Some(Record {
-            file: self.file,
-            fields: span.fields,
-            start,
-            end: span.end,
-            next: start,
-            left: span.fields,
+            next: Some(Place::first(file)),
         })
     }
 }
 
+impl<'a> Iterator for Reader<'a> {
+    ghost use Rattle.rfc4180.specs.Views.{pieces, left};
+
+    type Item = Record<'a>;
+
+    ghost next_gives = { YieldsFirstBy pieces left };
+
+    ghost remaining = { item_count left };
+
+    fn next(&mut self) -> Option<Record<'a>> {
+        let first = self.next?;
+        let record = Record::read(first);
+        self.next = first.next_record(record.end());
+        Some(record)
+    }
+}
+
+// A record of a checked file.
+#[derive(Clone, Copy)]
+pub struct Record<'a> {
+    first: Place<'a>,
+    fields: usize,
+    end: usize,
+    ghost whole: { record { fields = fields; start = first.at; end = end } ≡ outline_of (record_at first.file.now first.at) } by { Prim.hlevel props },
+}
+
+// The fields of a record that are still to be read.
+#[derive(Clone, Copy)]
+pub struct Fields<'a> {
+    next: Option<Place<'a>>,
+}
+
 impl<'a> Record<'a> {
+    ghost use Rattle.rfc4180.specs.Views.{pieces, outline, remaining};
+
+    // The record whose first field starts at a place.
+    pub(crate) fn read(first: Place<'a>) -> Record<'a>
+        ensures pieces { pieces result ≡ record_at first.entry.file.now first.entry.at }
+        ensures within { (outline result).end ≤ length first.entry.file.now }
+    {
+        // Counted by hand, since `count` and `last` would go over the record's bytes twice.
+        let mut fields = 0;
+        let mut end = first.at();
+        for field in (Fields { next: Some(first) }) {
+            fields += 1;
+            end = field.end();
+        }
+        Record { first, fields, end }
+    }
+
     // How many fields the record has.
     pub fn fields(&self) -> usize
-        ensures { result ≡ (outline self.now).fields }
+        ensures outline { result ≡ (outline self.now).fields }
+        ensures pieces { result ≡ length (pieces self.now) }
     {
         self.fields
     }
 
     // Where its first field starts.
     pub fn start(&self) -> usize
-        ensures { result ≡ (outline self.now).start }
+        ensures outline { result ≡ (outline self.now).start }
+        ensures pieces { result ≡ start_of (pieces self.now) }
     {
-        self.start
+        self.first.at()
     }
 
     // Where its last field ends.
     pub fn end(&self) -> usize
-        ensures { result ≡ (outline self.now).end }
+        ensures outline { result ≡ (outline self.now).end }
+        ensures pieces { result ≡ end_of (pieces self.now) }
     {
         self.end
     }
 
-    // The next field; none where all are read.
-    pub fn field(&mut self) -> Option<Field<'a>>
-        ensures reads { MatchOption result ((remaining self.old ≡ []) × (remaining self.new ≡ [])) (λ field. remaining self.old ≡ piece field ∷ remaining self.new) }
-        ensures outline { outline self.new ≡ outline self.old }
+    // Its fields, from the left.
+    pub fn iter(&self) -> Fields<'a>
+        ensures pieces { remaining result ≡ pieces self.now }
+        ensures few { length (pieces self.now) ≤ 65537 }
     {
-        if self.left == 0 || self.next > self.file.len() {
-            return None;
+        Fields {
+            next: Some(self.first),
         }
-        let field = field_at(self.file, self.next);
-        self.next = end_of(field) + 1;
-        self.left -= 1;
+    }
+}
+
+impl<'a> IntoIterator for Record<'a> {
+    ghost use Rattle.rfc4180.specs.Views.{pieces, remaining};
+
+    type Item = Field<'a>;
+
+    type IntoIter = Fields<'a>;
+
+    ghost into_iter_gives = { λ r fields. remaining fields ≡ pieces r };
+
+    fn into_iter(self) -> Fields<'a> {
+        self.iter()
+    }
+}
+
+impl<'a> Iterator for Fields<'a> {
+    ghost use Rattle.rfc4180.specs.Views.{piece, remaining};
+
+    type Item = Field<'a>;
+
+    ghost next_gives = { YieldsFirstBy piece remaining };
+
+    ghost remaining = { item_count remaining };
+
+    fn next(&mut self) -> Option<Field<'a>> {
+        let place = self.next?;
+        let field = place.field();
+        self.next = place.next_field(field.end());
         Some(field)
     }
 }

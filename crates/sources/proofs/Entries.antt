@@ -1,8 +1,10 @@
 -- The first entry of a list that is refused, the marks of those listed, and what a source made of them means.
-use Rattle.std.proofs.Common.{◌≡◌, ℕ, zero, suc, ◌+◌, ◌-◌, ◌<◌, ◌≤◌, Bool, true, false, cond, not, ◌&&◌, eqb, leb, ◌⊎◌, List, [], ◌∷◌, ◌++◌, length, get_or, take, set, replicate, ℤ, pos, nat_abs, Some, None, Ok, Err, Option, Result, sym, refl, ap, ◌∙◌, subst, inl, inr, add-one, arith}
+use Rattle.std.proofs.Common.{◌≡◌, ℕ, zero, suc, ◌+◌, ◌-◌, ◌<◌, ◌≤◌, Bool, true, false, cond, not, ◌&&◌, eqb, leb, ◌⊎◌, List, [], ◌∷◌, ◌++◌, length, get_or, take, drop, set, replicate, ℤ, pos, nat_abs, Some, None, Ok, Err, Option, Result, sym, refl, ap, ◌∙◌, subst, inl, inr, add-one, arith}
 use mathlib.Core.Path.{fun_ext}
-use Rattle.std.proofs.lemmas.List.{get_or-set_same, get_or-set_other, get_or-take, get_or_past, take_more, length-take-le}
-use Rattle.std.proofs.lemmas.Bool.{cases_lt, cases_eq, cases_Bool, leb-true, le-leb, ltb-false, not-false, not_from_true, and_parts, and_from, and_right, eq-eqb, ne_eqb, cond-true, cond-false}
+use Rattle.std.proofs.lemmas.List.{get_or-set_same, get_or-set_other, get_or_past, get_or_append_left, get_or-append_right, get_or-drop, take_more}
+use Rattle.std.proofs.lemmas.List.Sums.{fails_before_first, passes_at_first}
+use Rattle.std.specs.List.{position, position_or_len}
+use Rattle.std.proofs.lemmas.Bool.{cases_lt, cases_eq, cases_Bool, leb-true, le-leb, lt-ltb, le-ltb, ltb-false, not-false, not_from_true, and_parts, and_from, and_right, eq-eqb, ne_eqb, cond-true, cond-false}
 use Rattle.feeder.specs.declared.line.Line.{Line}
 use Rattle.feeder.specs.Way.{is_in}
 use Rattle.files.proofs.Added.{everywhere}
@@ -44,6 +46,24 @@ first_stays a (suc b) n test le e =
 
 pub first_found : (i count : ℕ) (test : ℕ → Bool) → i < count → first_at i test ≡ None → test i ≡ true → first_at count test ≡ Some i
 first_found i count test lt e t = first_stays (suc i) count i test (omega arith) (first_here i test e t)
+
+pub first_unpassed : (count : ℕ) (test : ℕ → Bool) → ((k : ℕ) → k < count → test k ≡ false) → first_at count test ≡ None
+first_unpassed zero test h = first_none test
+first_unpassed (suc k) test h = first_suc_none k test (first_unpassed k test (λ i lt. h i (omega arith))) ∙ cond-false _ _ _ (h k (omega arith))
+
+-- the first entry that passes is at the list's own position
+pub first_position : (p : ℤ → Bool) (xs : List ℤ) → first_at (length xs) (λ i. p (get_or xs i (pos 0))) ≡ position p xs
+first_position p xs =
+    elim (cases_lt at (length xs)) [
+      | inl lt ↦ first_found at (length xs) test lt (first_unpassed at test (λ k h. fails_before_first p xs k (pos 0) h)) (passes_at_first p xs (pos 0) lt) ∙ sym (cond-true _ _ _ (lt-ltb at (length xs) lt))
+      | inr past ↦ first_unpassed (length xs) test (λ k h. fails_before_first p xs k (pos 0) (omega arith)) ∙ sym (cond-false _ _ _ (le-ltb at (length xs) past))
+    ]
+  where
+    at : ℕ
+    at = position_or_len p xs
+
+    test : ℕ → Bool
+    test i = p (get_or xs i (pos 0))
 
 first_before : (k : ℕ) (test : ℕ → Bool) → first_at (suc k) test ≡ None → (first_at k test ≡ None) × (test k ≡ false)
 first_before k test e = elim (cases_none (first_at k test)) [
@@ -122,18 +142,13 @@ placed_entry last b t e = within_le last b (and_parts (within last b) t (not-fal
 
 -- standing voltages
 
-pub copies_none : (xs : List ℤ) → Copies (take 0 xs) (replicate 64 (pos 0))
-copies_none xs k = everywhere 64 k (pos 0)
-
-pub copies_more :
-    (xs : List ℤ) (i : ℕ) (places : List ℤ) → i < length xs → i < length places → Copies (take i xs) places → Copies (take (i + 1) xs) (set places i (get_or xs i (pos 0)))
-copies_more xs i places lt room h k =
-    elim (cases_eq k i) [
-      | inl same ↦ ap (λ j. get_or (set places i (get_or xs i (pos 0))) j (pos 0)) same ∙ get_or-set_same places i (get_or xs i (pos 0)) (pos 0) room ∙ sym (ap (λ j. get_or (take (i + 1) xs) j (pos 0)) same ∙ get_or-take (i + 1) xs i (pos 0) (omega arith))
-      | inr other ↦ get_or-set_other places i k (get_or xs i (pos 0)) (pos 0) other ∙ h k ∙ elim (cases_lt k i) [
-        | inl under ↦ get_or-take i xs k (pos 0) under ∙ sym (get_or-take (i + 1) xs k (pos 0) (omega arith))
-        | inr past ↦ get_or_past (take i xs) k (pos 0) (omega (arith, length-take-le i xs (omega arith))) ∙ sym (get_or_past (take (i + 1) xs) k (pos 0) (omega (arith, length-take-le (i + 1) xs (omega arith))))
-      ]
+pub copies_before : (xs : List ℤ) (n : ℕ) → length xs ≡ n → Copies xs (xs ++ drop n (replicate 64 (pos 0)))
+copies_before xs n long k =
+    elim (cases_lt k (length xs)) [
+      | inl under ↦ get_or_append_left xs (drop n (replicate 64 (pos 0))) (pos 0) k under
+      | inr past ↦
+          get_or-append_right xs (drop n (replicate 64 (pos 0))) n k (pos 0) long (omega (arith, long)) ∙ get_or-drop n (replicate 64 (pos 0)) (k - n) (pos 0) ∙
+          everywhere 64 (n + (k - n)) (pos 0) ∙ sym (get_or_past xs k (pos 0) past)
     ]
 
 pub steady_copies : (xs places : List ℤ) → first_too_far xs ≡ None → Copies xs places → Steady places

@@ -1,2 +1,4 @@
 pub mod Entries
+pub mod Instances
 pub mod Remaking
+pub mod Steps

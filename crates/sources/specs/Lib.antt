@@ -1,4 +1,5 @@
 pub mod TableFacts
+pub mod GridFacts
 pub mod TableLoading
 pub mod LineFacts
 pub mod LineMaking

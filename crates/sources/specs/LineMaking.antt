@@ -7,13 +7,14 @@ use Rattle.probing.specs.declared.fault.SourceFault.{SourceFault}
 use Rattle.probing.specs.declared.fault.SourceFault.TheVariants.{MapSize, InverterEntry, StandingCount, StandingEntry}
 use Rattle.probing.specs.Facts.{Facts}
 use Rattle.probing.specs.Answers.{first_refusal}
-use Rattle.sources.specs.declared.feeder_source.FeederSource.{FeederSource}
+use Rattle.sources.specs.declared.feeder_source.FeederGrid.{FeederGrid}
+use Rattle.sources.specs.declared.grid_source.GridSource.{GridSource}
 use Rattle.sources.specs.TableFacts.{within}
 use Rattle.sources.specs.LineFacts.{line_facts, standing_of, feeder_facts}
 
 -- what a feeder source means
-abbrev pub meaning : FeederSource → Facts
-meaning s = feeder_facts (lines_of s.map) s.inverters s.standing s.settings
+abbrev pub meaning : GridSource FeederGrid → Facts
+meaning s = feeder_facts (lines_of s.grid.map) s.grid.inverters s.grid.standing s.settings.thousandths
 
 -- the line of the new place's one bus, from the substation
 abbrev pub lone_line : Line
@@ -62,7 +63,7 @@ make_of F inverters standing =
     (Ok (made_facts F inverters standing)))))
 
 -- Accepted, the place means what was told; refused, it is as it was, settings included.
-abbrev pub Making : Result Facts SourceFault → FeederSource → FeederSource → Result (Unit {0}) SourceFault → Type 0
+abbrev pub Making : Result Facts SourceFault → GridSource FeederGrid → GridSource FeederGrid → Result (Unit {0}) SourceFault → Type 0
 Making told old new (Ok u) = told ≡ Ok (meaning new)
 Making told old new (Err fault) = (told ≡ Err fault) × (new ≡ old)
 

@@ -1,18 +1,16 @@
 -- The facts of a source that walks lines: within their bounds, and with one setting replaced.
-use Rattle.std.specs.Prelude.{◌≡◌, ℕ, ◌-◌, ◌<◌, ◌≤◌, Bool, true, false, not, ◌&&◌, List, length, ℤ, pos, Some, None, Ok, ◌≢◌, nat_le, slice_index_or, slice_set, unsigned_abs}
-use Rattle.std.proofs.Common.{sym, ap, ◌∙◌, arith}
-use Rattle.std.proofs.lemmas.Bool.{leb-true, and_parts, and_from, and_left, and_right, not_from_true, not_from_false, cond_both, cond-false}
+use Rattle.std.specs.Prelude.{◌≡◌, ℕ, ◌-◌, ◌<◌, ◌≤◌, Bool, true, false, ◌&&◌, List, length, ℤ, pos, Some, nat_le, slice_index_or, unsigned_abs}
+use Rattle.std.proofs.Common.{ap, arith}
+use Rattle.std.proofs.lemmas.Bool.{leb-true, and_parts, and_from, and_left, and_right, cond_both, cond-false}
 use Rattle.feeder.specs.declared.line.Line.{Line}
 use Rattle.feeder.specs.declared.map.Map.{Map}
 use Rattle.feeder.specs.Feeder.{Bus, response}
 use Rattle.feeder.specs.View.{lines_of, asked}
 use Rattle.feeder.proofs.Maps.{map_stands}
 use Rattle.feeder.proofs.Laws.{responses_are_at_most_distances}
-use Rattle.probing.specs.Facts.{Facts, Bounded, metered, voltage, with_settings, with_setting}
-use Rattle.probing.specs.Answers.{read_of}
+use Rattle.probing.specs.Facts.{Bounded}
 use Rattle.sources.specs.TableFacts.{within, Few, Settled}
 use Rattle.sources.specs.LineFacts.{marked, feeder_facts, Steady}
-use Rattle.sources.specs.Settings.{setting_replaced}
 
 pub within_bus : (F : List Line) (n : ℕ) → within (length F) n ≡ true → Bus F n
 within_bus F n e =
@@ -48,36 +46,10 @@ feeder_bounded map marks standing settings few steady settled =
     last : ℕ
     last = length (lines_of map)
 
-marked_first : (last : ℕ) (marks : List Bool) (m : ℕ) → marked last marks m ≡ true → 1 ≤ m
-marked_first last marks m e = leb-true 1 m (and_parts (nat_le 1 m) (nat_le m last) (marked_within last marks m e)).0
-
-pub feeder_replaced :
-    (F : List Line) (marks : List Bool) (standing settings : List ℤ) (m : ℕ) (v : ℤ) → marked (length F) marks m ≡ true → m - 1 < length settings →
-    feeder_facts F marks standing (slice_set settings (m - 1) v) ≡ with_setting (feeder_facts F marks standing settings) m v
-feeder_replaced F marks standing settings m v there l =
-    ap (with_settings (feeder_facts F marks standing settings)) (setting_replaced (marked (length F) marks) settings m v there (marked_first (length F) marks) l)
-
--- what the map answers of two buses
-
-asked_some : (b : Bool) (x r : ℕ) → Some r ≡ asked b x → r ≡ x
-asked_some true x r h = cc
-asked_some false x r h = absurd (let z : ◌≡◌ {A = ℕ} 0 1 = cc in omega arith)
-
-asked_none : (b : Bool) (x : ℕ) → None ≡ asked b x → b ≢ true
-asked_none true x h e = let z : ◌≡◌ {A = ℕ} 0 1 = cc in omega arith
-asked_none false x h e = let z : ◌≡◌ {A = ℕ} 0 1 = cc in omega arith
-
-pub response_told : (F : List Line) (n m r : ℕ) → Some r ≡ asked (nat_le n (length F) && nat_le m (length F)) (response F n m) → r ≡ response F n m
-response_told F n m r h = asked_some (nat_le n (length F) && nat_le m (length F)) (response F n m) r h
-
-pub response_untold :
-    (F : List Line) (n m : ℕ) → None ≡ asked (nat_le n (length F) && nat_le m (length F)) (response F n m) →
-    within (length F) n ≡ true → within (length F) m ≢ true
-response_untold F n m h e f =
-    asked_none (nat_le n (length F) && nat_le m (length F)) (response F n m) h
+-- the map is asked of two of its buses
+pub response_asked :
+    (F : List Line) (n m : ℕ) → within (length F) n ≡ true → within (length F) m ≡ true →
+    asked (nat_le n (length F) && nat_le m (length F)) (response F n m) ≡ Some (response F n m)
+response_asked F n m e f =
+    ap (λ b. asked b (response F n m))
     (and_from (nat_le n (length F)) (nat_le m (length F)) (and_parts (nat_le 1 n) (nat_le n (length F)) e).1 (and_parts (nat_le 1 m) (nat_le m (length F)) f).1)
-
--- reading a live meter
-pub read_here : (f : Facts) (n : ℕ) (v : ℤ) → metered f n ≡ true → f.mute n ≡ false → v ≡ voltage f n → Ok v ≡ read_of f n
-read_here f n v here live e =
-    ap Ok e ∙ sym (cond-false _ _ _ (not_from_true _ (and_from (metered f n) (not (f.mute n)) here (not_from_false (f.mute n) live))))

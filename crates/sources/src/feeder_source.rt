@@ -1,22 +1,58 @@
-ghost use Rattle.std.specs.Prelude.{length};
+ghost use Rattle.std.specs.Prelude.{[], length};
 ghost use Rattle.feeder.specs.View.{lines_of};
-ghost use Rattle.sources.specs.LineFacts.{Steady};
-ghost use Rattle.sources.specs.TableFacts.{Few, Settled};
+ghost use Rattle.sources.specs.LineFacts.{feeder_facts, Steady};
+ghost use Rattle.sources.specs.Lines.{feeder_bounded};
+ghost use Rattle.sources.specs.Settings.{settled_empty};
+ghost use Rattle.sources.specs.TableFacts.{Few};
 
+use crate::grid::{Grid, MOST_METERED};
+use crate::grid_source::GridSource;
 use feeder::Map;
 
-mod as_source;
 mod making;
 
 // A source that walks the lines of a map. Every bus is metered, and no meter is mute.
+pub type FeederSource = GridSource<FeederGrid>;
+
 #[derive(Drop)]
-pub struct FeederSource {
+pub struct FeederGrid {
     map: Map,
-    // What bus n has stands at n - 1: whether it has an inverter, its standing voltage and its inverter's setting.
-    inverters: [bool; 64],
-    standing: [i64; 64],
-    settings: [i64; 64],
+    // What bus n has stands at n - 1: whether it has an inverter, and its standing voltage. Two arrays and not one of
+    // pairs, since they come from two lists of unlike lengths, and one of them is copied whole: pairs would be no plainer.
+    inverters: [bool; MOST_METERED],
+    standing: [i64; MOST_METERED],
     ghost few: { Few (length (lines_of map)) },
     ghost steady: { Steady standing },
-    ghost settled: { Settled settings },
+}
+
+impl Grid for FeederGrid {
+    ghost idle = { λ g. feeder_facts (lines_of g.map) g.inverters g.standing [] };
+
+    ghost bounded = { λ g. feeder_bounded g.map g.inverters g.standing [] g.few g.steady settled_empty };
+
+    fn buses(&self) -> usize {
+        self.map.buses()
+    }
+
+    fn has_inverter(&self, bus: usize) -> bool {
+        self.is_metered(bus) && self.inverters[bus - 1]
+    }
+
+    fn standing(&self, bus: usize) -> Option<i64> {
+        if self.is_metered(bus) {
+            Some(self.standing[bus - 1])
+        } else {
+            None
+        }
+    }
+
+    fn response(&self, bus: usize, inverter: usize) -> i64 {
+        if !self.has_inverter(inverter) || !self.is_metered(bus) {
+            return 0;
+        }
+        match self.map.response(bus, inverter) {
+            Some(response) => i64::from(response),
+            None => 0,
+        }
+    }
 }

@@ -3,7 +3,9 @@
 #![tactic(auto)]
 
 mod feeder_source;
-mod model;
+mod grid;
+mod grid_source;
+mod settings;
 mod table_source;
 
 pub use feeder_source::FeederSource;

@@ -15,7 +15,8 @@ use Rattle.printing.specs.MapTexts.{map_text}
 use Rattle.maps.specs.Reading.{MapReading}
 use Rattle.maps.proofs.Trips.{written_maps_are_read}
 use Rattle.probing.specs.declared.fault.SourceFault.TheVariants.{MapSize, InverterEntry, StandingCount, StandingEntry}
-use Rattle.sources.specs.declared.feeder_source.FeederSource.{FeederSource}
+use Rattle.sources.specs.declared.feeder_source.FeederGrid.{FeederGrid}
+use Rattle.sources.specs.declared.grid_source.GridSource.{GridSource}
 use Rattle.probing.specs.Facts.{Facts, Bounded}
 use Rattle.probing.specs.Answers.{first_refusal}
 use Rattle.sources.specs.TableFacts.{within}
@@ -73,7 +74,7 @@ module _ (map : Map) (xs : List ℕ) (ys : List ℤ) (sized : within 64 (length 
       }
 
 -- A made source, as it is behind its probing.
-module _ (map : Map) (xs : List ℕ) (ys : List ℤ) (source : FeederSource) (made : make_of (lines_of map) xs ys ≡ Ok (meaning source)) where
+module _ (map : Map) (xs : List ℕ) (ys : List ℤ) (source : GridSource FeederGrid) (made : make_of (lines_of map) xs ys ≡ Ok (meaning source)) where
   means : meaning source ≡ made_facts (lines_of map) xs ys
   means = (made_facts_lem (lines_of map) xs ys (meaning source) made).1
 
@@ -84,7 +85,7 @@ module _ (map : Map) (xs : List ℕ) (ys : List ℤ) (source : FeederSource) (ma
   heard = lowest_empty (meaning source).buses (meaning source).mute (λ n l h. refl)
 
   bounds : Bounded (meaning source)
-  bounds = feeder_bounded source.map source.inverters source.standing source.settings source.few source.steady source.settled
+  bounds = feeder_bounded source.grid.map source.grid.inverters source.grid.standing source.settings.thousandths source.grid.few source.grid.steady source.settings.settled
 
   -- its probing is not refused
   pub not_refused : (refusal : CampaignRefusal) → AllProbed (meaning source) step (Err refusal) → ⊥
@@ -95,15 +96,15 @@ module _ (map : Map) (xs : List ℕ) (ys : List ℤ) (source : FeederSource) (ma
       Ends (meaning source) Complete old answer new
   draws_again old new c probed answer draws = ends (meaning source) bounds c probed.1 Complete old new answer draws
 
-  pub not_drawn : (before : FeederSource) (old new : Map) (fault : DrawingFault) → Ends (meaning source) Complete old (Err fault) new → Returns (lines_of map) xs ys before old (Err (InDrawing fault)) before new
+  pub not_drawn : (before : GridSource FeederGrid) (old new : Map) (fault : DrawingFault) → Ends (meaning source) Complete old (Err fault) new → Returns (lines_of map) xs ys before old (Err (InDrawing fault)) before new
   not_drawn before old new fault (bare n e) = absurd (let z : ◌≡◌ {A = ℕ} 0 1 = cc in omega arith)
   not_drawn before old new fault (none e nothing) = nowhere (meaning source) made nothing
 
-  pub drawn_again : (before : FeederSource) (old new : Map) → Ends (meaning source) Complete old (Ok tt) new → Returns (lines_of map) xs ys before old (Ok tt) source new
+  pub drawn_again : (before : GridSource FeederGrid) (old new : Map) → Ends (meaning source) Complete old (Ok tt) new → Returns (lines_of map) xs ys before old (Ok tt) source new
   drawn_again before old new (some n e d) = drawn source made n d
 
 -- with an inverter at every end the feeder comes back
-pub came_back : (map : Map) (xs : List ℕ) (ys : List ℤ) (before : FeederSource) (old : Map) (r : Result (Unit {0}) ProgramFault) (source : FeederSource) (new : Map) →
+pub came_back : (map : Map) (xs : List ℕ) (ys : List ℤ) (before : GridSource FeederGrid) (old : Map) (r : Result (Unit {0}) ProgramFault) (source : GridSource FeederGrid) (new : Map) →
     Returns (lines_of map) xs ys before old r source new → is_ok (make_of (lines_of map) xs ys) ≡ true → ((b : ℕ) → End (lines_of map) b → is_in xs b ≡ true) → Returned map r source new
 came_back map xs ys before old r source new (unmade fault e) accepted ended = absurd (both_ways _ (ap is_ok e) accepted)
 came_back map xs ys before old r source new (nowhere f made nothing) accepted ended =

@@ -11,7 +11,8 @@ use Rattle.maps.specs.Reading.{MapReading}
 use Rattle.maps.specs.RoundTrip.{ReadBack}
 use Rattle.probing.specs.declared.fault.SourceFault.{SourceFault}
 use Rattle.probing.specs.Facts.{Facts}
-use Rattle.sources.specs.declared.feeder_source.FeederSource.{FeederSource}
+use Rattle.sources.specs.declared.feeder_source.FeederGrid.{FeederGrid}
+use Rattle.sources.specs.declared.grid_source.GridSource.{GridSource}
 use Rattle.sources.specs.LineMaking.{meaning, make_of}
 use Rattle.campaign.specs.declared.drawing_fault.DrawingFault.TheVariants.{NoFeeder as Nowhere}
 use Rattle.campaign.specs.Drawings.{responses_of}
@@ -20,15 +21,15 @@ use Rattle.survey.specs.declared.fault.ProgramFault.TheVariants.{Source, Drawing
 
 -- From lines, inverters and standing voltages to a source's place and a map's place. The source cannot be made; or no complete
 -- feeder yields its responses; else it is in its place as it was made, with every inverter on its schedule, and the drawn map is in the map's.
-pub data Returns (F : List Line) (inverters : List ℕ) (standing : List ℤ) (before : FeederSource) (old : Map) : Result (Unit {0}) ProgramFault → FeederSource → Map → Type 0 where
+pub data Returns (F : List Line) (inverters : List ℕ) (standing : List ℤ) (before : GridSource FeederGrid) (old : Map) : Result (Unit {0}) ProgramFault → GridSource FeederGrid → Map → Type 0 where
   unmade : (fault : SourceFault) → make_of F inverters standing ≡ Err fault → Returns F inverters standing before old (Err (Source fault)) before old
   nowhere : (f : Facts) → make_of F inverters standing ≡ Ok f → NoFeeder Complete (responses_of f) →
       Returns F inverters standing before old (Err (Drawing Nowhere)) before old
-  drawn : (source : FeederSource) → make_of F inverters standing ≡ Ok (meaning source) → (new : Map) → DrawnMap Complete (responses_of (meaning source)) new →
+  drawn : (source : GridSource FeederGrid) → make_of F inverters standing ≡ Ok (meaning source) → (new : Map) → DrawnMap Complete (responses_of (meaning source)) new →
       Returns F inverters standing before old (Ok tt) source new
 
 -- The feeder came back.
-pub record Returned (map : Map) (r : Result (Unit {0}) ProgramFault) (source : FeederSource) (new : Map) : Type 0 where
+pub record Returned (map : Map) (r : Result (Unit {0}) ProgramFault) (source : GridSource FeederGrid) (new : Map) : Type 0 where
   pub accepted : r ≡ Ok tt
   -- the drawn feeder is the one that was probed, line by line
   pub lines : lines_of new ≡ lines_of map

@@ -48,16 +48,16 @@ impl From<DrawingFault> for ProgramFault {
     }
 }
 
-impl ProgramFault {
-    // The number, layer and place, as the refusal is printed: a campaign's without its inverter.
-    pub fn refusal(self) -> Refusal
-        ensures { result ≡ refusal_of self }
-    {
-        match self {
-            ProgramFault::File { fault } => fault.refusal(),
-            ProgramFault::Source { fault } => fault.refusal(),
-            ProgramFault::Campaign { refusal } => refusal.fault.refusal(),
-            ProgramFault::Drawing { fault } => fault.refusal(),
+// The number, layer and place, as the refusal is printed: a campaign's without its inverter.
+impl From<ProgramFault> for Refusal {
+    ghost from_gives = { λ fault r. r ≡ refusal_of fault };
+
+    fn from(fault: ProgramFault) -> Refusal {
+        match fault {
+            ProgramFault::File { fault } => Refusal::from(fault),
+            ProgramFault::Source { fault } => Refusal::from(fault),
+            ProgramFault::Campaign { refusal } => Refusal::from(refusal.fault),
+            ProgramFault::Drawing { fault } => Refusal::from(fault),
         }
     }
 }

@@ -7,6 +7,7 @@ use crate::surveying::survey_file;
 use feeder::{Kind, Map};
 use files::FileFault;
 use printing::{write_map, write_refusal};
+use refusals::Refusal;
 
 // Surveys a response file and writes the map file of the drawn feeder, or the first refusal.
 fn print_survey(file: &[u8], kind: Kind, out: &mut [u8]) -> Result<usize, FileFault>
@@ -17,7 +18,7 @@ fn print_survey(file: &[u8], kind: Kind, out: &mut [u8]) -> Result<usize, FileFa
     let mut map = Map::new();
     match survey_file(file, kind, &mut map) {
         Ok(()) => write_map(&map, out),
-        Err(fault) => write_refusal(fault.refusal(), out),
+        Err(fault) => write_refusal(Refusal::from(fault), out),
     }
 }
 
@@ -31,7 +32,7 @@ pub fn fullmap(file: &[u8], out: &mut [u8]) -> Result<usize, FileFault>
     print_survey(file, Kind::Complete, out)
 }
 
-/// The same with the reduced map.
+/// The same with the reduced map. Both are one function over the kind, with a name for each program.
 pub fn reducedmap(file: &[u8], out: &mut [u8]) -> Result<usize, FileFault>
     ensures prints { Prints file.now Reduced out.old out.new result }
     ensures room { 2300 ≤ length out.old → is_ok result ≡ true }

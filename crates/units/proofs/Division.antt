@@ -1,19 +1,14 @@
 -- A response times its step is the change.
-use Rattle.std.proofs.Common.{◌≡◌, ℕ, zero, suc, ◌*◌, ◌/◌, ◌%◌, Bool, true, false, cond, ◌&&◌, eqb, leb, ◌≢◌, ℤ, pos, negsuc, ◌*ℤ◌, neg_ℤ, nat_abs, Some, None, Option, sym, refl, ap, ◌∙◌, div-add-mod', zero-mul, mul-div_cancel, arith}
+use Rattle.std.proofs.Common.{◌≡◌, ℕ, zero, suc, ◌/◌, ◌%◌, Bool, true, false, cond, ◌&&◌, eqb, leb, ◌≢◌, ℤ, pos, negsuc, ◌*ℤ◌, neg_ℤ, nat_abs, Some, None, Option, sym, refl, ap, ◌∙◌, mul-div_cancel, arith}
 use native.Mathlib.Nat.{mul-mod_left}
 use lib.Signed.{quot_z, rem_z}
 use Rattle.std.proofs.lemmas.Bool.{eqb-true, eq-eqb, ne_eqb, leb-true, le-leb, and_parts, and_from, cond-false, both_ways}
+use Rattle.std.proofs.lemmas.Int.{ints, quot-rem, unsigned_abs-mul}
 use Rattle.units.specs.Quotients.{Divides, response_of}
 
 abs_neg : (n : ℕ) → nat_abs (neg_ℤ (pos n)) ≡ n
 abs_neg zero = refl
 abs_neg (suc n) = refl
-
-pub abs_times : (a b : ℤ) → nat_abs (a *ℤ b) ≡ nat_abs a * nat_abs b
-abs_times (pos a) (pos b) = refl
-abs_times (pos a) (negsuc b) = abs_neg (a * suc b)
-abs_times (negsuc a) (pos b) = abs_neg (suc a * b)
-abs_times (negsuc a) (negsuc b) = refl
 
 pub abs_quotient : (a b : ℤ) → nat_abs (quot_z a b) ≡ nat_abs a / nat_abs b
 abs_quotient (pos a) (pos b) = refl
@@ -25,27 +20,13 @@ pub abs_remainder : (a b : ℤ) → nat_abs (rem_z a b) ≡ nat_abs a % nat_abs 
 abs_remainder (pos a) b = refl
 abs_remainder (negsuc a) b = abs_neg (suc a % nat_abs b)
 
-even : (a b : ℕ) → a % b ≡ 0 → a / b * b ≡ a
-even a b h = omega (arith, div-add-mod' a b)
-
-neg_times_pos : (n b : ℕ) → neg_ℤ (pos n) *ℤ pos b ≡ neg_ℤ (pos (n * b))
-neg_times_pos zero b = ap pos (zero-mul b) ∙ sym (ap (λ k. neg_ℤ (pos k)) (zero-mul b))
-neg_times_pos (suc n) b = refl
-
-neg_times_neg : (n b : ℕ) → neg_ℤ (pos n) *ℤ negsuc b ≡ pos (n * suc b)
-neg_times_neg zero b = ap (λ k. neg_ℤ (pos k)) (zero-mul (suc b)) ∙ sym (ap pos (zero-mul (suc b)))
-neg_times_neg (suc n) b = refl
-
--- a division without remainder is undone by the product
-undone : (a b : ℤ) → nat_abs (rem_z a b) ≡ 0 → quot_z a b *ℤ b ≡ a
-undone (pos a) (pos b) h = ap pos (even a b h)
-undone (pos a) (negsuc b) h = neg_times_neg (a / suc b) b ∙ ap pos (even a (suc b) h)
-undone (negsuc a) (pos b) h = neg_times_pos (suc a / b) b ∙ ap (λ k. neg_ℤ (pos k)) (even (suc a) b (sym (abs_neg (suc a % b)) ∙ h))
-undone (negsuc a) (negsuc b) h = ap (λ k. neg_ℤ (pos k)) (even (suc a) (suc b) (sym (abs_neg (suc a % suc b)) ∙ h))
-
 abs_zero : (z : ℤ) → nat_abs z ≡ 0 → z ≡ pos 0
 abs_zero (pos n) h = ap pos h
 abs_zero (negsuc n) h = absurd (omega arith)
+
+-- a division without remainder is undone by the product
+undone : (a b : ℤ) → nat_abs (rem_z a b) ≡ 0 → quot_z a b *ℤ b ≡ a
+undone a b h = omega (arith, ints, quot-rem a b, abs_zero (rem_z a b) h)
 
 -- a product is divided without remainder, by its factor
 pub divides : (change step : ℤ) → (step ≡ pos 0 → ⊥) → Divides change step (response_of change step)
@@ -68,7 +49,7 @@ divides change step some = go (response_of change step) refl
     taken true e None h = absurd (let z : ◌≡◌ {A = ℕ} 0 1 = cc in omega arith)
     taken false e (Some q) h = absurd (let z : ◌≡◌ {A = ℕ} 0 1 = cc in omega arith)
     taken false e None h = λ q small product.
-        let sizes = sym (ap nat_abs product) ∙ abs_times q step in
+        let sizes = sym (ap nat_abs product) ∙ unsigned_abs-mul q step in
         let rem : nat_abs (rem_z change step) ≡ 0 = abs_remainder change step ∙ ap (λ n. n % nat_abs step) sizes ∙ mul-mod_left (nat_abs q) (nat_abs step) in
         let quot : nat_abs (quot_z change step) ≡ nat_abs q = abs_quotient change step ∙ ap (λ n. n / nat_abs step) sizes ∙ mul-div_cancel (nat_abs q) (omega (arith, nonzero)) in
         both_ways test e (and_from _ _ (eq-eqb _ 0 rem) (le-leb _ 1000000 (omega arith)))

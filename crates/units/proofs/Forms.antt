@@ -2,16 +2,13 @@
 use Rattle.std.proofs.Common.{◌≡◌, ℕ, suc, ◌+◌, ◌-◌, ◌*◌, ◌^◌, ◌<◌, ◌≤◌, Bool, true, false, cond, not, ◌&&◌, eqb, ltb, leb, List, [], ◌∷◌, ◌++◌, length, get_or, take, drop, ℤ, Some, None, Option, sym, refl, ap, ◌∙◌, ⊎_elim, one-add, arith}
 use Rattle.std.proofs.lemmas.List.{drop_more, take-append-drop, take_at, drop_at, drop-drop, append-nil, length-append, take_all}
 use Rattle.std.proofs.lemmas.Bool.{cases_lt, eqb-true, leb-true, le-leb, lt-ltb, le-ltb, and_parts, and_from, cond-true, cond-false}
+use Rattle.std.proofs.lemmas.Option.{cond_some}
 use Rattle.units.specs.Decimals.{digit, digits, number, Decimal, Form, pointed, written, value, Reads, bind, number_of, is_minus, unsigned, not_point, whole_length, magnitude_of, signed, decimal_of}
 
 -- a chain of readings that succeeds succeeds at its first link
 bind_some : {T U : Type 0} (o : Option T) (k : T → Option U) (v : U) → bind o k ≡ Some v → (x : T) × (o ≡ Some x) × (k x ≡ Some v)
 bind_some None k v e = absurd (let z : ◌≡◌ {A = ℕ} 0 1 = cc in omega arith)
 bind_some (Some x) k v e = (x, refl, e)
-
-cond_some : {T : Type 0} (t : Bool) (x v : T) → cond t (Some x) None ≡ Some v → (t ≡ true) × (v ≡ x)
-cond_some true x v e = (refl, cc)
-cond_some false x v e = absurd (let z : ◌≡◌ {A = ℕ} 0 1 = cc in omega arith)
 
 pub record Numeral (most : ℕ) (text : List ℕ) (n : ℕ) : Type 0 where
   pub some : 1 ≤ length text
@@ -24,7 +21,7 @@ number_form most text n e =
     let cut = cond_some ((leb 1 (length text) && leb (length text) most) && digits text) (number text) n e in
     let outer = and_parts (leb 1 (length text) && leb (length text) most) (digits text) cut.0 in
     let inner = and_parts (leb 1 (length text)) (leb (length text) most) outer.0 in
-    record { some = leb-true 1 (length text) inner.0; few = leb-true (length text) most inner.1; digital = outer.1; is = cut.1 }
+    record { some = leb-true 1 (length text) inner.0; few = leb-true (length text) most inner.1; digital = outer.1; is = sym cut.1 }
 
 pub form_number : (most : ℕ) (text : List ℕ) → 1 ≤ length text → length text ≤ most → digits text ≡ true → number_of most text ≡ Some (number text)
 form_number most text l m d =

@@ -1,29 +1,7 @@
-ghost use Rattle.std.specs.Prelude.{◌≡◌, ◌*◌, ◌^◌, ◌<◌, ◌≤◌, length, IfSome};
-ghost use Rattle.units.specs.Decimals.{places_of, number_of, is_minus, unsigned, whole_length, magnitude_of, decimal_of, bus_of, Decimal, Form, Reads, Sign};
+ghost use Rattle.std.specs.Prelude.{◌≡◌, ◌+◌, ◌*◌, ◌^◌, ◌<◌, ◌≤◌, ◌==◌, length, position, take, drop, pos, IfSome, MatchOption, option_map};
+ghost use Rattle.units.specs.Decimals.{places_of, number_of, whole_length, magnitude_of, decimal_of, bus_of, Decimal, Form, Reads, Sign};
 
 use crate::Scale;
-
-// How many digits may stand behind the point.
-fn places(scale: Scale) -> usize
-    ensures value { result ≡ places_of scale }
-    ensures few { result ≤ 9 }
-{
-    match scale {
-        Scale::Thousandths => 3,
-        Scale::Millionths => 6,
-        Scale::Billionths => 9,
-    }
-}
-
-// Whether a minus stands in front, and what follows it.
-fn split_sign(text: &[u8]) -> (bool, &[u8])
-    ensures { (result.0 ≡ is_minus text.now) × (result.1.now ≡ unsigned text.now) }
-{
-    match text {
-        [b'-', digits @ ..] => (true, digits),
-        digits => (false, digits),
-    }
-}
 
 // The number that one to `most` digits write.
 fn number(text: &[u8], most: usize) -> Option<u64>
@@ -34,9 +12,10 @@ fn number(text: &[u8], most: usize) -> Option<u64>
     if text.is_empty() || text.len() > most {
         return None;
     }
+    // A `for`: a `try_fold` would put the early None and the sum into one closure, which reads no plainer.
     let mut n = 0;
     for b in text {
-        if *b < b'0' || *b > b'9' {
+        if !b.is_ascii_digit() {
             return None;
         }
         n = n * 10 + u64::from(*b - b'0');
@@ -44,24 +23,11 @@ fn number(text: &[u8], most: usize) -> Option<u64>
     Some(n)
 }
 
-// How many bytes stand before the first point.
-fn whole_length(text: &[u8]) -> usize
-    ensures value { result ≡ whole_length text.now }
-    ensures within { result ≤ length text.now }
-{
-    for (i, b) in text.iter().enumerate() {
-        if *b == b'.' {
-            return i;
-        }
-    }
-    text.len()
-}
-
 // A bus number: one to four digits.
 pub fn bus_number(text: &[u8]) -> Option<usize>
     ensures { result ≡ bus_of text.now }
 {
-    Some(number(text, 4)? as usize)
+    usize::try_from(number(text, 4)?).ok()
 }
 
 // n times 10 to the k.
@@ -70,23 +36,42 @@ fn scaled(n: u64, k: usize) -> u64
     ensures value { result ≡ n * 10 ^ k }
     ensures small { result ≤ 10 ^ 9 * n }
 {
+    // `as`: a `usize` has no `From` to the `u32` of `pow`, and a `TryFrom` would hand on an error that can't come.
     n * 10u64.pow(k as u32)
 }
 
-// The size of a decimal with no sign, in units of 10 to the minus `places`.
-fn magnitude(body: &[u8], places: usize) -> Option<u64>
-    requires { places ≤ 9 }
-    ensures value { result ≡ magnitude_of places body.now }
-    ensures small { IfSome result (λ n. n < 2 ^ 61) }
+// Where the first point stands.
+fn point(body: &[u8]) -> Option<usize>
+    ensures { result ≡ position (λ b. b == 0x2E) body.now }
 {
-    let cut = whole_length(body);
-    let whole = scaled(number(&body[0..cut], 4)?, places);
-    if cut == body.len() {
-        return Some(whole);
+    body.iter().position(|b| *b == b'.')
+}
+
+// What stands before the first point, and what stands behind it where there is one.
+fn split_point(body: &[u8]) -> (&[u8], Option<&[u8]>)
+    ensures whole { result.0.now ≡ take (whole_length body.now) body.now }
+    ensures fraction { MatchOption result.1 (length body.now ≤ whole_length body.now)
+        (λ digits. (whole_length body.now < length body.now)
+        × (digits.now ≡ drop (whole_length body.now + 1) body.now)) }
+{
+    match point(body) {
+        Some(point) => (&body[..point], Some(&body[point + 1..])),
+        None => (body, None),
     }
-    let digits = &body[cut + 1..body.len()];
-    let fraction = number(digits, places)?;
-    Some(whole + scaled(fraction, places - digits.len()))
+}
+
+// The size of a decimal with no sign, in units of 10 to the minus `places`.
+fn magnitude(body: &[u8], places: usize) -> Option<i64>
+    requires { places ≤ 9 }
+    ensures value { result ≡ option_map pos (magnitude_of places body.now) }
+{
+    let (whole, fraction) = split_point(body);
+    let whole = scaled(number(whole, 4)?, places);
+    let part = match fraction {
+        Some(digits) => scaled(number(digits, places)?, places - digits.len()),
+        None => 0,
+    };
+    i64::try_from(whole + part).ok()
 }
 
 // The sign joined to the size.
@@ -94,9 +79,10 @@ fn signed_value(text: &[u8], places: usize) -> Option<i64>
     requires { places ≤ 9 }
     ensures { result ≡ decimal_of places text.now }
 {
-    let (minus, body) = split_sign(text);
-    let size = magnitude(body, places)? as i64;
-    if minus { Some(-size) } else { Some(size) }
+    match text {
+        [b'-', digits @ ..] => Some(-magnitude(digits, places)?),
+        digits => magnitude(digits, places),
+    }
 }
 
 // The value of a decimal: an optional minus, one to four digits, and optionally a point with one digit or more, as many
@@ -106,5 +92,5 @@ pub fn decimal(text: &[u8], scale: Scale) -> Option<i64>
     ensures form { Reads (places_of scale) text.now result }
     ensures sign { (d : Decimal) → Form (places_of scale) d → Sign (places_of scale) d }
 {
-    signed_value(text, places(scale))
+    signed_value(text, scale.places())
 }

@@ -19,15 +19,18 @@ impl Responses {
         requires few { bus ≤ 64 }
         ensures { result ≡ (entries_of self.now).has bus }
     {
-        self.has[bus - 1]
+        self.columns[bus - 1].is_some()
     }
 
-    // The response of a bus to an inverter.
+    // The response of a bus to an inverter, 0 to a bus that has none.
     pub(crate) fn entry(&self, bus: usize, inverter: usize) -> u32
         requires row { (0 < bus) × (bus ≤ 64) }
         requires column { (0 < inverter) × (inverter ≤ 64) }
         ensures { result ≡ (entries_of self.now).entry bus inverter }
     {
-        self.entries[inverter - 1][bus - 1]
+        match &self.columns[inverter - 1] {
+            Some(column) => column[bus - 1],
+            None => 0,
+        }
     }
 }

@@ -7,9 +7,9 @@ use crate::columns::Columns;
 use crate::responses::Responses;
 
 // The largest response of a feeder.
-const LARGEST: i64 = 1_000_000;
+const LARGEST: u32 = 1_000_000;
 
-// The responses of the columns. Those of buses without inverters are not read.
+// The responses of the columns.
 pub(crate) fn read_columns(columns: &Columns) -> Option<Responses>
     ensures { MatchOption result (WrongColumns (table_of columns.now)) (λ s. Reads (table_of columns.now) (entries_of s)) }
 {
@@ -17,47 +17,32 @@ pub(crate) fn read_columns(columns: &Columns) -> Option<Responses>
     if buses == 0 || buses > 64 {
         return None;
     }
-    match unsigned_columns(columns) {
-        Some(entries) => {
-            let has = columns.has;
-            Some(Responses {
-                buses,
-                has,
-                entries,
-            })
-        }
-        None => None,
-    }
+    let columns = unsigned_columns(columns)?;
+    Some(Responses { buses, columns })
 }
 
-// The entries of the inverters' columns.
-fn unsigned_columns(columns: &Columns) -> Option<[[u32; 64]; 64]>
+// The columns of the metered buses. `array::try_from_fn` is no plainer: it asks for a Result, and for a test of each place.
+fn unsigned_columns(columns: &Columns) -> Option<[Option<[u32; 64]>; 64]>
     requires { columns.now.buses ≤ 64 }
     ensures { MatchOption result (WrongEntry columns.now) (λ u. ReadTo columns.now columns.now.buses u) }
 {
-    let mut unsigned = [[0; 64]; 64];
-    for m in 0..columns.buses {
-        if columns.has[m] {
-            match unsigned_column(&columns.entries[m], columns.buses) {
-                Some(column) => unsigned[m] = column,
-                None => return None,
-            }
+    let mut unsigned = [None; 64];
+    for (m, column) in columns.columns[..columns.buses].iter().enumerate() {
+        if let Some(column) = column {
+            unsigned[m] = Some(unsigned_column(column, columns.buses)?);
         }
     }
     Some(unsigned)
 }
 
-// The first entries of a column.
+// The first entries of a column. Here too `array::try_from_fn` would ask for a Result, and for a test of each place.
 fn unsigned_column(column: &[i64; 64], buses: usize) -> Option<[u32; 64]>
     requires { buses ≤ 64 }
     ensures { MatchOption result ((n : ℕ) × (n < buses) × Wrong (slice_index_or column.now n (pos 0))) (λ u. ((n : ℕ) → n < buses → slice_index_or column.now n (pos 0) ≡ pos (slice_index u n)) × ((n : ℕ) → n < buses → slice_index u n ≤ 1000000)) }
 {
     let mut unsigned = [0; 64];
-    for n in 0..buses {
-        match magnitude(column[n]) {
-            Some(entry) => unsigned[n] = entry,
-            None => return None,
-        }
+    for (n, entry) in column[..buses].iter().enumerate() {
+        unsigned[n] = magnitude(*entry)?;
     }
     Some(unsigned)
 }
@@ -66,9 +51,5 @@ fn unsigned_column(column: &[i64; 64], buses: usize) -> Option<[u32; 64]>
 fn magnitude(entry: i64) -> Option<u32>
     ensures { MatchOption result (Wrong entry) (λ u. (entry ≡ pos u) × (u ≤ 1000000)) }
 {
-    if entry < 0 || entry > LARGEST {
-        None
-    } else {
-        Some(entry as u32)
-    }
+    u32::try_from(entry).ok().filter(|entry| *entry <= LARGEST)
 }

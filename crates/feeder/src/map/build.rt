@@ -1,6 +1,6 @@
 // A map from a list of lines, bus 1 first.
-ghost use Rattle.std.specs.Prelude.{◌≡◌, ℕ, ◌-◌, ◌≤◌, ◌++◌, length, replicate, MatchOption, MatchResult};
-ghost use Rattle.feeder.specs.Feeder.{Bus, blank};
+ghost use Rattle.std.specs.Prelude.{◌≡◌, ℕ, ◌≤◌, length, MatchOption, MatchResult};
+ghost use Rattle.feeder.specs.Feeder.{Bus};
 ghost use Rattle.feeder.specs.Build.{Reaches, IsBeyond, IsFlawed, Lowest, Tabled, Refused, FeedersMakeMaps};
 ghost use Rattle.feeder.specs.Laws.{Pigeonhole, WaysAreShort};
 ghost use Rattle.feeder.specs.Table.{AnswersAreAlone};
@@ -8,14 +8,15 @@ ghost use Rattle.feeder.specs.View.{lines_of, metered_of, MapsAreTheirLines};
 
 use crate::fault::Fault;
 use crate::line::Line;
-use crate::map::blank::{blank_lines, no_distances};
-use crate::map::{MOST_BUSES, Map, PLACES};
+use crate::map::{Map, PLACES};
+use arrayvec::ArrayVec;
 
 // The farthest that a bus of a map is from the substation.
 const FARTHEST: u32 = 1_000_000;
 
 impl Map {
     /// The map of these lines, bus 1 first, of which the first buses are metered.
+    #[tactic(auto, using(crate::proofs::Builds::feeders_make_maps, crate::proofs::SameMaps::maps_are_their_lines, crate::proofs::Pigeonhole::at_most, crate::proofs::Pigeonhole::has_all, crate::proofs::Laws::ways_are_short, crate::proofs::Alone::answers_are_alone))]
     pub fn from_lines(metered: usize, lines: &[Line]) -> Result<Map, Fault>
         ensures value { MatchResult result (λ m. (metered_of m ≡ metered) × (lines_of m ≡ lines.now)) (λ e. Refused metered lines.now e) }
         ensures accepts { FeedersMakeMaps }
@@ -23,42 +24,33 @@ impl Map {
         ensures counting { Pigeonhole × WaysAreShort }
         ensures drawn { AnswersAreAlone }
     {
-        let buses = lines.len();
-        if buses > MOST_BUSES {
+        // With map_err and `?` in place of `else`, the facts of the map were not proved.
+        let Ok(own_lines) = ArrayVec::try_from(lines) else {
             return Err(Fault::TooMany);
-        }
-        if metered > buses {
+        };
+        if metered > lines.len() {
             return Err(Fault::Overmetered);
         }
         if let Some(bus) = flawed(lines) {
             return Err(Fault::Flawed(bus));
         }
-        match measured(lines) {
-            Ok(distances) => {
-                let lines = placed(lines);
-                Ok(Map {
-                    metered,
-                    buses,
-                    lines,
-                    distances,
-                })
-            }
-            Err(bus) => Err(Fault::Beyond(bus)),
-        }
+        let distances = measured(lines)?;
+        Ok(Map {
+            metered,
+            lines: own_lines,
+            distances,
+        })
     }
 }
 
 // The lowest bus whose parent is no bus or whose line has no resistance.
 fn flawed(lines: &[Line]) -> Option<usize>
-    requires { length lines.now ≤ 127 }
     ensures { MatchOption result ((b : ℕ) → Bus lines.now b → IsFlawed lines.now b → ⊥) (λ b. Lowest lines.now (IsFlawed lines.now) b) }
 {
-    for (i, line) in lines.iter().enumerate() {
-        if line.parent > lines.len() || line.resistance == 0 {
-            return Some(i + 1);
-        }
-    }
-    None
+    lines
+        .iter()
+        .position(|line| line.parent > lines.len() || line.resistance == 0)
+        .map(|place| place + 1)
 }
 
 // The sum of the resistances on the way of a bus, where it is at most the farthest.
@@ -81,30 +73,15 @@ fn reach(lines: &[Line], bus: usize) -> Option<u32>
     Some(sum)
 }
 
-// The distance of every bus behind that of the substation, or the lowest bus that lies beyond.
-fn measured(lines: &[Line]) -> Result<[u32; PLACES], usize>
+// The distances of the substation and of every bus, or the lowest bus that lies beyond.
+fn measured(lines: &[Line]) -> Result<ArrayVec<u32, PLACES>, Fault>
     requires short { length lines.now ≤ 127 }
     requires sound { (b : ℕ) → Bus lines.now b → IsFlawed lines.now b → ⊥ }
-    ensures { MatchResult result (λ ds. Tabled lines.now ds) (λ b. Lowest lines.now (IsBeyond lines.now) b) }
+    ensures { MatchResult result (λ ds. Tabled lines.now ds.items) (λ e. (b : ℕ) × (e ≡ Fault.Beyond b) × Lowest lines.now (IsBeyond lines.now) b) }
 {
-    let mut distances = no_distances();
-    for bus in 1..=lines.len() {
-        match reach(lines, bus) {
-            Some(distance) => distances[bus] = distance,
-            None => return Err(bus),
-        }
+    let mut distances = ArrayVec::new();
+    for bus in 0..=lines.len() {
+        distances.push(reach(lines, bus).ok_or(Fault::Beyond(bus))?);
     }
     Ok(distances)
-}
-
-// The lines at the front of a map's places.
-fn placed(lines: &[Line]) -> [Line; MOST_BUSES]
-    requires { length lines.now ≤ 127 }
-    ensures { result ≡ lines.now ++ replicate (127 - length lines.now) blank }
-{
-    let mut places = blank_lines();
-    for (i, line) in lines.iter().enumerate() {
-        places[i] = *line;
-    }
-    places
 }

@@ -16,6 +16,6 @@ impl Map {
     pub fn buses(&self) -> usize
         ensures { result ≡ length (lines_of self.now) }
     {
-        self.buses
+        self.lines.len()
     }
 }

@@ -4,7 +4,9 @@ ghost use Rattle.probing.specs.declared.fault.SourceFault.TheVariants.{InverterE
 ghost use Rattle.sources.specs.TableFacts.{within};
 ghost use Rattle.sources.specs.LineMaking.{meaning, lone_line, new_feeder, first_misplaced, first_too_far, make_of, Making, Marks, Copies};
 
-use crate::feeder_source::FeederSource;
+use crate::feeder_source::{FeederGrid, FeederSource};
+use crate::grid::MOST_METERED;
+use crate::settings::Settings;
 use feeder::{Line, Map};
 use probing::SourceFault;
 
@@ -14,10 +16,12 @@ impl FeederSource {
         ensures { meaning result ≡ new_feeder }
     {
         FeederSource {
-            map: one_bus(),
-            inverters: [false; 64],
-            standing: [0; 64],
-            settings: [0; 64],
+            grid: FeederGrid {
+                map: one_bus(),
+                inverters: [false; MOST_METERED],
+                standing: [0; MOST_METERED],
+            },
+            settings: Settings::new(),
         }
     }
 
@@ -31,7 +35,7 @@ impl FeederSource {
         ensures { Making (make_of (lines_of map.now) inverters.now standing.now) self.old self.new result }
     {
         let buses = map.buses();
-        if buses < 1 || buses > 64 {
+        if buses < 1 || buses > MOST_METERED {
             return Err(SourceFault::MapSize { buses });
         }
         let marks = mark(buses, inverters)?;
@@ -42,10 +46,12 @@ impl FeederSource {
         }
         let voltages = stand(standing)?;
         *self = FeederSource {
-            map: same_lines(map),
-            inverters: marks,
-            standing: voltages,
-            settings: [0; 64],
+            grid: FeederGrid {
+                map: same_lines(map),
+                inverters: marks,
+                standing: voltages,
+            },
+            settings: Settings::new(),
         };
         Ok(())
     }
@@ -70,7 +76,7 @@ fn same_lines(map: &Map) -> Map
     Map::from_lines(map.buses(), map.lines()).unwrap()
 }
 
-fn is_misplaced(buses: usize, marks: &[bool; 64], bus: usize) -> bool
+fn is_misplaced(buses: usize, marks: &[bool; MOST_METERED], bus: usize) -> bool
     requires { buses ≤ 64 }
     ensures { result ≡ not (within buses bus && not (slice_index_or marks.now (bus - 1) false)) }
 {
@@ -78,37 +84,45 @@ fn is_misplaced(buses: usize, marks: &[bool; 64], bus: usize) -> bool
 }
 
 // A mark at each bus that is listed.
-fn mark(buses: usize, inverters: &[usize]) -> Result<[bool; 64], SourceFault>
+fn mark(buses: usize, inverters: &[usize]) -> Result<[bool; MOST_METERED], SourceFault>
     requires { buses ≤ 64 }
     ensures { MatchResult result (λ marks. (first_misplaced buses inverters.now ≡ None) × Marks inverters.now marks) (λ e. (i : ℕ) × (first_misplaced buses inverters.now ≡ Some i) × (e ≡ InverterEntry i)) }
 {
-    let mut marks = [false; 64];
-    for i in 0..inverters.len() {
-        if is_misplaced(buses, &marks, inverters[i]) {
-            return Err(SourceFault::InverterEntry { index: i });
+    let mut marks = [false; MOST_METERED];
+    for (index, &bus) in inverters.iter().enumerate() {
+        if is_misplaced(buses, &marks, bus) {
+            return Err(SourceFault::InverterEntry { index });
         }
-        marks[inverters[i] - 1] = true;
+        marks[bus - 1] = true;
     }
     Ok(marks)
 }
 
+// The furthest that a standing voltage is from 0.
+const FURTHEST_STANDING: u64 = 1_000_000_000;
+
 fn is_too_far(voltage: i64) -> bool
     ensures { result ≡ nat_lt 1000000000 (unsigned_abs voltage) }
 {
-    voltage < -1_000_000_000 || voltage > 1_000_000_000
+    voltage.unsigned_abs() > FURTHEST_STANDING
+}
+
+// The index of the first standing voltage that is too far from 0.
+fn too_far_at(standing: &[i64]) -> Option<usize>
+    ensures { result ≡ first_too_far standing.now }
+{
+    standing.iter().position(|voltage| is_too_far(*voltage))
 }
 
 // The standing voltage of each bus at its place.
-fn stand(standing: &[i64]) -> Result<[i64; 64], SourceFault>
+fn stand(standing: &[i64]) -> Result<[i64; MOST_METERED], SourceFault>
     requires { length standing.now ≤ 64 }
     ensures { MatchResult result (λ places. (first_too_far standing.now ≡ None) × Copies standing.now places) (λ e. (i : ℕ) × (first_too_far standing.now ≡ Some i) × (e ≡ StandingEntry i)) }
 {
-    let mut places = [0; 64];
-    for i in 0..standing.len() {
-        if is_too_far(standing[i]) {
-            return Err(SourceFault::StandingEntry { index: i });
-        }
-        places[i] = standing[i];
+    if let Some(index) = too_far_at(standing) {
+        return Err(SourceFault::StandingEntry { index });
     }
+    let mut places = [0; MOST_METERED];
+    places[..standing.len()].copy_from_slice(standing);
     Ok(places)
 }

@@ -1,7 +1,8 @@
 ghost use Rattle.std.specs.Prelude.{◌≡◌};
 ghost use Rattle.sources.specs.TableLoading.{facts_of, new_facts, Loading};
 
-use crate::table_source::TableSource;
+use crate::settings::Settings;
+use crate::table_source::{TableGrid, TableSource};
 use files::{FileFault, Table};
 
 impl TableSource {
@@ -10,8 +11,10 @@ impl TableSource {
         ensures { facts_of result ≡ new_facts }
     {
         TableSource {
-            table: Table::new(),
-            settings: [0; 64],
+            grid: TableGrid {
+                table: Table::new(),
+            },
+            settings: Settings::new(),
         }
     }
 
@@ -19,11 +22,11 @@ impl TableSource {
     pub fn load(&mut self, file: &[u8]) -> Result<(), FileFault>
         ensures { Loading file.now self.old self.new result }
     {
-        let mut table = self.table;
+        let mut table = self.grid.table;
         table.read(file)?;
         *self = TableSource {
-            table,
-            settings: [0; 64],
+            grid: TableGrid { table },
+            settings: Settings::new(),
         };
         Ok(())
     }

@@ -1,5 +1,6 @@
-use Rattle.std.proofs.Common.{sym, subst}
+use Rattle.std.proofs.Common.{◌≡◌, replicate, pos, None, rules, sym, subst}
 use Rattle.campaign.specs.declared.state.Campaign.{Campaign}
+use Rattle.campaign.specs.Relations.{zeros, no_columns, opening_of}
 use Rattle.campaign.specs.History.{AnyLook, Law}
 use Rattle.campaign.specs.Drawings.{CampaignLaw}
 use Rattle.campaign.proofs.Law.{kept}
@@ -7,10 +8,12 @@ use Rattle.campaign.proofs.Whole.{campaign_law}
 use Rattle.campaign.proofs.opening.open_campaign.Goals as goal
 
 pub returns : goal.returns
+unfolding zeros no_columns
 returns g c =
     let f = g.S.Source.facts c.args.source.now in
+    let opened : record { buses = c.buses.result; inverters = c.inverters_of.result; outstanding = None; before = replicate 64 (pos 0); columns = replicate 64 None } ≡ opening_of f = search rules in
     record {
-      opened = c.new_campaign.ensures;
-      law = subst (λ (k : Campaign). CampaignLaw f k) (sym c.new_campaign.ensures) (campaign_law f (g.met.S.Source.bounded _));
-      keeps = subst (λ (k : Campaign). Law AnyLook f k) (sym c.new_campaign.ensures) (kept AnyLook f (g.met.S.Source.bounded _));
+      opened = opened;
+      law = subst (λ (k : Campaign). CampaignLaw f k) (sym opened) (campaign_law f (g.met.S.Source.bounded _));
+      keeps = subst (λ (k : Campaign). Law AnyLook f k) (sym opened) (kept AnyLook f (g.met.S.Source.bounded _));
     }

@@ -1,5 +1,5 @@
-use Rattle.campaign.proofs.Rising.{Surveying}
+use Rattle.campaign.proofs.Rising.{Below}
 use Rattle.campaign.proofs.survey.probe_all.Given as goal
 
-abbrev pub invariant-loop-i : goal.invariant-loop-i
-invariant-loop-i g l = Surveying (g.S.Source.facts l.initial.source) l.step l.i (g.S.Source.facts l.source) l.campaign
+abbrev pub invariant-loop-bus : goal.invariant-loop-bus
+invariant-loop-bus g l = Below (g.S.Source.facts l.initial.source) l.step l.bus (g.S.Source.facts l.source) l.campaign

@@ -1,13 +1,13 @@
-use Rattle.std.proofs.Common.{◌+◌, pos, unwrap_or, ap, ◌∙◌, arith, length-set, w64, SFits, rules}
-use Rattle.std.proofs.lemmas.Int.{to_z-of_z}
-use Rattle.campaign.specs.Columns.{entry}
-use Rattle.drawing.proofs.Copying.{stored, entry_told}
+use Rattle.std.proofs.Common.{◌≡◌, ◌+◌, pos, is_some, unwrap_or, ap, ◌∙◌, rules}
+use Rattle.campaign.specs.Columns.{response_in}
+use Rattle.drawing.proofs.Arrays.{each_made}
+use Rattle.drawing.proofs.Copying.{some_if, entries_told}
 use Rattle.drawing.proofs.campaigns.column_of.Goals as goal
 
-pub loop-i-preserved : goal.loop-i-preserved
-loop-i-preserved c =
-    let fits : SFits w64 c.unwrap_or.result = search rules in (
-      length-set c.loop-i.entries c.loop-i.i _ ∙ c.loop-i.invariant.0,
-      λ p. stored (λ k. entry c.args.campaign.now (k + 1) c.args.inverter) (pos 0) c.loop-i.entries c.loop-i.i _ (omega arith)
-          (to_z-of_z w64 c.unwrap_or.result fits ∙ c.unwrap_or.ensures ∙ ap (λ o. unwrap_or o (pos 0)) c.response.ensures ∙ entry_told c.args.campaign.now c.loop-i.i c.args.inverter (omega arith) p) (c.loop-i.invariant.1 p),
-    )
+pub returns-clause-has : goal.returns-clause-has
+returns-clause-has c = ap is_some c.then_some.ensures ∙ some_if _ _ ∙ c.has_inverter.ensures
+
+pub returns-clause-entries : goal.returns-clause-entries
+returns-clause-entries c p =
+    entries_told c.args.campaign.now c.args.inverter _ _ _ c.then_some.ensures p
+    (λ k l. each_made _ (λ k y. y ≡ unwrap_or (response_in c.args.campaign.now (k + 1) c.args.inverter) (pos 0)) _ (λ i y q h. search rules) _ _ c.from_fn-entries.ensures.items k (pos 0) l)

@@ -1,8 +1,9 @@
-use Rattle.std.proofs.Common.{◌≤◌, sym, arith}
+use Rattle.std.proofs.Common.{◌≤◌, sym, ◌∙◌, arith}
+use Rattle.std.proofs.lemmas.Result.{err_from_is_err_and}
 use Rattle.campaign.specs.Drawings.{incomplete, unequipped, nowhere, drawn}
 use Rattle.feeder.proofs.Alone.{answers_are_alone}
 use Rattle.feeder.proofs.Agreeing.{nowhere_to, drawn_map_to}
-use Rattle.drawing.proofs.Copying.{copied, copied_within}
+use Rattle.drawing.proofs.Copying.{copied, copied_within, was_drawn, was_refused}
 use Rattle.drawing.proofs.campaigns.draw_campaign.Goals as goal
 
 pub returns-in-Some : goal.returns-in-Some
@@ -18,22 +19,25 @@ returns-then-buses-gt64 c =
       alone = answers_are_alone;
     }
 
-pub returns-in-Some-draw : goal.returns-in-Some-draw
-returns-in-Some-draw c =
+pub returns : goal.returns
+returns c =
     let campaign = c.args.campaign.now in
     let none = sym c.in_default.ensures in
     let few : campaign.buses ≤ 64 = omega (arith, c.buses.ensures, c.if-buses-gt64.false) in
+    let map = was_drawn _ _ c.draw.result _ c.in_ok-map.map (sym c.ok_or.ensures.value ∙ c.in_ok-map.was) c.draw.ensures in
     record {
-      draws = drawn c.in-Some-draw.map none (sym c.in_default-bare_bus.ensures) (drawn_map_to c.args.kind (copied campaign c.columns_of.result c.columns_of.ensures few none) c.in-Some-draw.map c.in-Some-draw.ensures);
+      draws = drawn c.in_ok-map.map none (sym c.in_default-bare_bus.ensures) (drawn_map_to c.args.kind (copied campaign c.columns_of.result c.columns_of.ensures few none) c.in_ok-map.map map);
       alone = answers_are_alone;
     }
 
-pub returns-in-None : goal.returns-in-None
-returns-in-None c =
+pub returns-in_err-map : goal.returns-in_err-map
+returns-in_err-map c =
     let campaign = c.args.campaign.now in
     let none = sym c.in_default.ensures in
     let few : campaign.buses ≤ 64 = omega (arith, c.buses.ensures, c.if-buses-gt64.false) in
+    let p = err_from_is_err_and c.from_residual.result c.from_residual.ensures.1 in
+    let refused = was_refused _ _ c.draw.result _ _ (sym c.ok_or.ensures.value ∙ c.in_err-map.was) c.draw.ensures in
     record {
-      draws = nowhere none (sym c.in_default-bare_bus.ensures) (λ moderate. nowhere_to c.args.kind (copied campaign c.columns_of.result c.columns_of.ensures few none) (c.in-None.ensures (copied_within campaign c.columns_of.result c.columns_of.ensures none moderate)));
+      draws = rw (p.1, p.2, refused.0) (nowhere none (sym c.in_default-bare_bus.ensures) (λ moderate. nowhere_to c.args.kind (copied campaign c.columns_of.result c.columns_of.ensures few none) (refused.1 (copied_within campaign c.columns_of.result c.columns_of.ensures none moderate))));
       alone = answers_are_alone;
     }

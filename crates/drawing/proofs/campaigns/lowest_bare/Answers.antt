@@ -1,18 +1,11 @@
-use Rattle.std.proofs.Common.{not, sym, ap, ◌∙◌, arith}
+use Rattle.std.proofs.Common.{◌≡◌, true, not, ◌∙◌, rules}
 use Rattle.campaign.specs.Columns.{has_inverter}
-use Rattle.probing.proofs.Readings.{lowest_none, lowest_more}
-use Rattle.drawing.proofs.Copying.{lowest_found}
+use Rattle.drawing.proofs.Copying.{lowest_is}
+use Rattle.drawing.proofs.Ranges.{found}
 use Rattle.drawing.proofs.campaigns.lowest_bare.Goals as goal
 
-pub loop-i-init : goal.loop-i-init
-loop-i-init c = lowest_none _
-
-pub returns-then-not-has_inverter : goal.returns-then-not-has_inverter
-returns-then-not-has_inverter c =
+pub returns : goal.returns
+returns c =
     let campaign = c.args.campaign.now in
-    lowest_found campaign.buses c.loop-i.i (λ n. not (has_inverter campaign n)) (omega arith) c.loop-i.invariant (ap not (sym c.has_inverter.ensures ∙ c.if-not-has_inverter.true))
-
-pub loop-i-preserved : goal.loop-i-preserved
-loop-i-preserved c =
-    let campaign = c.args.campaign.now in
-    lowest_more c.loop-i.i (λ n. not (has_inverter campaign n)) c.loop-i.invariant (ap not (sym c.has_inverter.ensures ∙ c.if-not-has_inverter.false))
+    lowest_is campaign.buses (λ n. not (has_inverter campaign n)) c.find.result
+    (found c.new.result 1 campaign.buses c.new.ensures.start (c.new.ensures.end ∙ c.buses.ensures) c.new.ensures.exhausted _ _ (λ a b q h. search rules) (λ n. not (has_inverter campaign n) ≡ true) (λ n t h. search rules) _ c.find.ensures.runs)

@@ -1,18 +1,11 @@
-use Rattle.std.proofs.Common.{not, ◌&&◌, sym, ◌∙◌, arith}
+use Rattle.std.proofs.Common.{◌≡◌, true, not, ◌&&◌, ◌∙◌, rules}
 use Rattle.campaign.specs.Columns.{has_inverter, present}
-use Rattle.probing.proofs.Readings.{lowest_none, lowest_more}
-use Rattle.drawing.proofs.Copying.{lowest_found}
+use Rattle.drawing.proofs.Copying.{lowest_is}
+use Rattle.drawing.proofs.Ranges.{found}
 use Rattle.drawing.proofs.campaigns.missing_column.Goals as goal
 
-pub loop-i-init : goal.loop-i-init
-loop-i-init c = lowest_none _
-
-pub returns-then-lacks_column : goal.returns-then-lacks_column
-returns-then-lacks_column c =
+pub returns : goal.returns
+returns c =
     let campaign = c.args.campaign.now in
-    lowest_found campaign.buses c.loop-i.i (λ m. has_inverter campaign m && not (present campaign m)) (omega arith) c.loop-i.invariant (sym c.lacks_column.ensures ∙ c.if-lacks_column.true)
-
-pub loop-i-preserved : goal.loop-i-preserved
-loop-i-preserved c =
-    let campaign = c.args.campaign.now in
-    lowest_more c.loop-i.i (λ m. has_inverter campaign m && not (present campaign m)) c.loop-i.invariant (sym c.lacks_column.ensures ∙ c.if-lacks_column.false)
+    lowest_is campaign.buses (λ m. has_inverter campaign m && not (present campaign m)) c.find.result
+    (found c.new.result 1 campaign.buses c.new.ensures.start (c.new.ensures.end ∙ c.buses.ensures) c.new.ensures.exhausted _ _ (λ a b q h. search rules) (λ m. (has_inverter campaign m && not (present campaign m)) ≡ true) (λ n t h. search rules) _ c.find.ensures.runs)

@@ -1,18 +1,19 @@
-use Rattle.std.proofs.Common.{◌≡◌, ℕ, ◌-◌, take, ap, ◌∙◌, subst, arith}
+use Rattle.std.proofs.Common.{subst, ◌∙◌}
 use Rattle.feeder.specs.Build.{Refused}
 use Rattle.drawing.specs.Responses.{entries_of}
+use Rattle.drawing.proofs.Reading.{some}
 use Rattle.drawing.proofs.Outcomes.{lines_make_maps, map_seated}
 use Rattle.drawing.proofs.drawing.wired_map.Goals as goal
 
-from_start : (n : ℕ) → n - 0 ≡ n
-from_start n = omega arith
-
 pub unreachable-requires : goal.unreachable-requires
 unreachable-requires c =
-    lines_make_maps (entries_of c.args.responses.now) c.args.seating.now c.wires-lines.result c.requires.seated c.wires-lines.ensures c.requires.some c.requires.near c.from_lines.ensures.accepts c.in-Err.field-0
-    (subst (λ t. Refused t (take c.args.seating.now.count c.wires-lines.result) c.in-Err.field-0) c.buses.ensures.value (subst (λ t. Refused c.buses.result (take t c.wires-lines.result) c.in-Err.field-0) (from_start c.args.seating.now.count) c.in-Err.ensures.value))
+    let seating = c.args.seating.now in
+    let lines = c.wires-lines.result.items in
+    lines_make_maps (entries_of seating.responses.now) seating.seats.now lines c.requires.seated c.wires-lines.ensures (some seating.responses.now) c.requires.near c.from_lines.ensures.accepts c.in-Err.field-0
+    (subst (λ t. Refused t lines c.in-Err.field-0) c.buses.ensures.value (subst (λ l. Refused c.buses.result l c.in-Err.field-0) c.deref.ensures.0 c.in-Err.ensures.value))
 
 pub returns : goal.returns
 returns c =
+    let seating = c.args.seating.now in
     let h = c.in-Ok.ensures.value in
-    map_seated (entries_of c.args.responses.now) c.args.seating.now c.wires-lines.result c.requires.seated c.wires-lines.ensures c.requires.some c.requires.near c.in-Ok.map (h.0 ∙ c.buses.ensures.value) (h.1 ∙ ap (λ t. take t c.wires-lines.result) (from_start c.args.seating.now.count))
+    map_seated (entries_of seating.responses.now) seating.seats.now c.wires-lines.result.items c.requires.seated c.wires-lines.ensures (some seating.responses.now) c.requires.near c.in-Ok.map (h.0 ∙ c.buses.ensures.value) (h.1 ∙ c.deref.ensures.0)

@@ -5,12 +5,12 @@ use Rattle.files.proofs.Texts.{text_some, text_none, odd_bus}
 use Rattle.units.specs.Decimals.{bus_of}
 use Rattle.files.proofs.numbers.bus_field.Goals as goal
 
-pub returns-in-None : goal.returns-in-None
-returns-in-None c =
+pub returns-in_err-text : goal.returns-in_err-text
+returns-in_err-text c =
     let content = (piece c.args.field).content in
-    sym (odd_bus (held content) (text_none content c.in-None.ensures))
+    rw c.from_residual.ensures (sym (odd_bus (held content) (text_none content c.in_err-text.ensures)))
 
-pub returns-in-Some : goal.returns-in-Some
-returns-in-Some c =
+pub returns : goal.returns
+returns c =
     let content = (piece c.args.field).content in
-    c.bus_number.ensures ∙ ap bus_of (sym (text_some content c.in-Some.text.now c.in-Some.ensures))
+    c.bus_number.ensures ∙ ap bus_of (sym (text_some content c.in_ok-text.field-0.now c.in_ok-text.ensures))

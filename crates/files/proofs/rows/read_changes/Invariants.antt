@@ -1,12 +1,10 @@
 use Rattle.std.proofs.Common.{◌≡◌, ◌+◌, ◌≤◌, length}
+use Rattle.std.specs.Iterator.Adapters.{enumerate_source, enumerate_count}
 use Rattle.rfc4180.specs.Views.{remaining}
-use Rattle.files.specs.Rows.{changes_from}
+use Rattle.files.specs.Rows.{changes_from, unprobed}
 use Rattle.files.proofs.rows.read_changes.Given as goal
 
-abbrev pub invariant-loop-field : goal.invariant-loop-field
-invariant-loop-field l =
-    (changes_from l.step 0 l.initial.changes (remaining l.initial.rest) ≡ changes_from l.step l.n l.changes (remaining l.rest)) ×
-    (l.n + length (remaining l.rest) ≤ 64)
-
-abbrev pub decreases-loop-field : goal.decreases-loop-field
-decreases-loop-field l = length (remaining l.rest)
+abbrev pub invariant-loop-n : goal.invariant-loop-n
+invariant-loop-n l =
+    (changes_from l.step 0 (unprobed l.initial.mute) (remaining l.fn.fields) ≡ changes_from l.step (enumerate_count l.n-iterator) (record { responses = l.responses; mute = l.mute }) (remaining (enumerate_source l.n-iterator))) ×
+    (enumerate_count l.n-iterator + length (remaining (enumerate_source l.n-iterator)) ≤ 64)

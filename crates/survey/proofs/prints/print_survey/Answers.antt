@@ -18,12 +18,12 @@ returns-in-Ok c =
 
 pub returns-in-Err : goal.returns-in-Err
 returns-in-Err c =
-    let r = c.refusal.result in
+    let r = c.from.result in
     let number : r.number < 2 ^ 8 = search rules in
     let place : r.place < 2 ^ 64 = search rules in
     let text = refused c.new-map.result c.survey_file.new.place c.in-Err.fault c.in-Err.ensures in
     record {
-      prints = (refusal_text r, rw c.refusal.ensures text, c.write_refusal.ensures.writes);
+      prints = (refusal_text r, rw c.from.ensures text, c.write_refusal.ensures.writes);
       room = has_room (refusal_text r) c.args.out.now c.write_refusal.new.out c.write_refusal.result (omega (arith, c.write_refusal.ensures.short r number place)) c.write_refusal.ensures.writes;
       alone = texts_are_alone;
     }

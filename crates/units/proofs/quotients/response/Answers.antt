@@ -1,13 +1,10 @@
-use Rattle.std.proofs.Common.{◌≡◌, ℤ, Option, sym, subst, w64, SFits}
-use Rattle.std.proofs.lemmas.Int.{to_z-of_z}
+use Rattle.std.proofs.Common.{◌≡◌, ℤ, Option, sym, subst, rules}
 use Rattle.units.specs.Quotients.{response_of, Divides}
 use Rattle.units.proofs.Division.{divides}
 use Rattle.units.proofs.quotients.response.Goals as goal
 
-pub returns : goal.returns
-returns c =
-    let change : SFits w64 c.args.change = c.ranges.change in
-    let step : SFits w64 c.args.step = c.ranges.step in
-    let same : c.quotient.result ≡ response_of c.args.change c.args.step = simp to_z-of_z at c.quotient.ensures in
+pub returns-clause-divides : goal.returns-clause-divides
+returns-clause-divides c = λ some.
+    let same : c.then_some.result ≡ response_of c.args.change c.args.step = search rules in
     let P : Option ℤ → Type 0 = Divides c.args.change c.args.step in
-    record { value = same; divides = λ some. subst P (sym same) (divides c.args.change c.args.step some) }
+    subst P (sym same) (divides c.args.change c.args.step some)

@@ -1,6 +1,5 @@
-use Rattle.std.proofs.Common.{sym, ap, ◌∙◌, arith, w32}
+use Rattle.std.proofs.Common.{sym, ap, ◌∙◌, arith, rules, w32, SFits}
 use Rattle.std.proofs.lemmas.Int.{to_z-of_z}
-use Rattle.campaign.specs.Columns.{is_outstanding}
 use Rattle.campaign.specs.Relations.{difference, divided_of}
 use Rattle.campaign.proofs.Lists.{same_buses}
 use Rattle.campaign.proofs.Quotients.{collect_divides}
@@ -14,8 +13,9 @@ quotients-requires g c =
 
 pub returns : goal.returns
 returns g c =
-    let f = g.S.Source.facts c.args.source.now in
-    let back = to_z-of_z w32 c.args.size c.ranges.size in
-    c.quotients.ensures ∙ ap (divided_of c.args.self.now.buses (difference c.args.self.now.before c.in_ok-after.after)) back ∙
-    collect_divides f (g.met.S.Source.bounded _) c.args.self.now c.args.inverter c.args.size c.in_ok-after.after
-    (sym c.matches.ensures ∙ c.if-not-matches.false) (ap (is_outstanding c.args.self.now c.args.inverter) (sym back) ∙ sym c.is_outstanding.ensures ∙ c.if-not-is_outstanding.false) c.in_ok-after.ensures
+    let d = c.args.self.now in
+    let size = c.args.step.now.size in
+    let fits : SFits w32 size = search rules in
+    c.quotients.ensures ∙ ap (divided_of d.buses (difference d.before c.in_ok-after.after)) (to_z-of_z w32 size fits) ∙
+    collect_divides (g.S.Source.facts c.args.source.now) (g.met.S.Source.bounded _) d c.args.step.now.inverter size c.in_ok-after.after
+    (sym c.matches.ensures ∙ c.if-not-matches.false) (sym c.is_outstanding.ensures ∙ c.if-not-is_outstanding.false) c.in_ok-after.ensures

@@ -6,8 +6,8 @@ use Rattle.drawing.proofs.responses.reading.read_columns.Goals.{then-buses-eq0-v
 pub returns-then-buses-eq0 : goal.returns-then-buses-eq0
 returns-then-buses-eq0 c = elim c.then-buses-eq0.branch [ then-buses-eq0-via-then-buses-eq0 w ↦ no_bus c.args.columns.now w.if-buses-eq0.true | then-buses-eq0-via-else-buses-eq0+then-buses-gt64 w ↦ too_many c.args.columns.now w.if-buses-gt64.true ]
 
-pub returns-in-Some : goal.returns-in-Some
-returns-in-Some c = read_all c.args.columns.now _ refl refl c.in-Some.ensures c.if-buses-eq0.false
+pub returns-in_err-columns : goal.returns-in_err-columns
+returns-in_err-columns c = rw c.from_residual.ensures (wrong_entry c.args.columns.now c.in_err-columns.ensures)
 
-pub returns-in-None : goal.returns-in-None
-returns-in-None c = wrong_entry c.args.columns.now c.in-None.ensures
+pub returns : goal.returns
+returns c = read_all c.args.columns.now _ refl c.in_ok-columns.ensures

@@ -12,7 +12,7 @@ pub loop-at-smaller : goal.loop-at-smaller
 loop-at-smaller c = omega (arith, passed_resistance c.args.lines.now c.requires.sound c.args.bus c.loop-at.at c.loop-at.sum c.loop-at.invariant (λ e. omega arith) (record { parent = 0; resistance = 0 }))
 
 pub loop-at-preserved : goal.loop-at-preserved
-loop-at-preserved c = passed_more c.args.lines.now c.requires.sound c.args.bus c.loop-at.at c.loop-at.sum c.loop-at.invariant (λ e. omega arith) (record { parent = 0; resistance = 0 }) (omega arith)
+loop-at-preserved c = passed_more c.args.lines.now c.requires.sound c.args.bus c.loop-at.at c.loop-at.sum c.loop-at.invariant (λ e. omega arith) _ (omega arith)
 
 pub returns : goal.returns
 returns c = (c.loop-at.invariant.near, passed_all c.args.lines.now c.args.bus c.loop-at.at c.loop-at.sum c.loop-at.invariant (omega arith))

@@ -2,21 +2,19 @@ use Rattle.std.proofs.lemmas.Result.{err_from_is_err_and}
 use Rattle.files.proofs.Outcomes.{unopened, unread, filled, told_of}
 use Rattle.files.proofs.table.Table.read.Goals as goal
 
-pub returns-in_err-reader : goal.returns-in_err-reader
-returns-in_err-reader c =
+pub returns-in_err-open-clause-reads : goal.returns-in_err-open-clause-reads
+returns-in_err-open-clause-reads c =
     let p = err_from_is_err_and c.from_residual.result c.from_residual.ensures.1 in
-    rw (p.1, p.2) (record { reads = unopened c.args.file.now c.args.self.now c.in_err-reader.field-0.0 c.in_err-reader.ensures; told = tt })
+    rw (p.1, p.2) (unopened c.args.file.now c.args.self.now c.in_err-open.field-0.0 c.in_err-open.ensures)
 
-pub returns-in_err-table : goal.returns-in_err-table
-returns-in_err-table c =
-    let p = err_from_is_err_and c.from_residual-in_err-table.result c.from_residual-in_err-table.ensures.1 in
-    rw (p.1, p.2) (record { reads = unread c.args.file.now c.args.self.now c.in_ok-reader.reader c.in_err-table.field-0.0 c.in_ok-reader.ensures c.in_err-table.ensures; told = tt })
+pub returns-in_err-self-clause-reads : goal.returns-in_err-self-clause-reads
+returns-in_err-self-clause-reads c =
+    let p = err_from_is_err_and c.from_residual-in_err-self.result c.from_residual-in_err-self.ensures.1 in
+    rw (p.1, p.2) (unread c.args.file.now c.args.self.now c.in_ok-open.field-0 c.in_err-self.field-0.0 c.in_ok-open.ensures c.in_err-self.ensures)
 
-pub returns : goal.returns
-returns c =
-    let opening = c.in_ok-reader.ensures in
-    let table = c.in_ok-table.ensures in
-    record {
-      reads = filled c.args.file.now c.args.self.now c.in_ok-table.table c.in_ok-reader.reader opening table;
-      told = told_of c.args.file.now c.in_ok-table.table c.in_ok-reader.reader opening table;
-    }
+pub returns-clause-reads : goal.returns-clause-reads
+returns-clause-reads c =
+    filled c.args.file.now c.args.self.now c.in_ok-self.field-0 c.in_ok-open.field-0 c.in_ok-open.ensures c.in_ok-self.ensures
+
+pub returns-clause-told : goal.returns-clause-told
+returns-clause-told c = told_of c.args.file.now c.in_ok-self.field-0 c.in_ok-open.field-0 c.in_ok-open.ensures c.in_ok-self.ensures

@@ -1,16 +1,12 @@
-use Rattle.std.proofs.Common.{◌≡◌, true, false, sym, ap, ◌∙◌, arith}
-use Rattle.rfc4180.specs.Views.{piece, quoteless, text_of}
-use Rattle.rfc4180.proofs.Quotes.{quoted_text}
+use Rattle.std.proofs.Common.{sym, ap, ◌∙◌}
+use Rattle.std.specs.Option.{option_map}
+use Rattle.rfc4180.specs.Views.{piece, text_of}
+use Rattle.rfc4180.proofs.Quotes.{quote_found, found_text}
 use Rattle.rfc4180.proofs.field.Field.text.Goals as goal
 
-pub returns-then-has_quote : goal.returns-then-has_quote
-returns-then-has_quote c =
-    let raw = c.in-Quoted.bytes.now in
-    let some : quoteless raw ≡ false = grind arith in
-    sym (ap (λ f. text_of (piece f).content) c.in-Quoted.is ∙ quoted_text raw false some)
-
-pub returns-else-has_quote : goal.returns-else-has_quote
-returns-else-has_quote c =
-    let raw = c.in-Quoted.bytes.now in
-    let none : quoteless raw ≡ true = grind arith in
-    sym (ap (λ f. text_of (piece f).content) c.in-Quoted.is ∙ quoted_text raw true none)
+pub returns-in-Quoted : goal.returns-in-Quoted
+returns-in-Quoted c =
+    let bytes = c.in-Quoted.bytes in
+    ap (option_map (λ x. x.now)) c.then_some.ensures
+    ∙ found_text bytes c.contains.result (c.contains.ensures.value ∙ quote_found bytes.now)
+    ∙ sym (ap (λ f. text_of (piece f).content) c.in-Quoted.is)

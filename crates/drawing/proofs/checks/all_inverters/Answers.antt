@@ -1,0 +1,11 @@
+use Rattle.std.proofs.Common.{◌≡◌, true, ◌∙◌, rules}
+use Rattle.std.proofs.lemmas.Bool.Decides.{Decides-like}
+use Rattle.drawing.specs.Responses.{entries_of}
+use Rattle.drawing.proofs.Ranges.{all_decided}
+use Rattle.drawing.proofs.checks.all_inverters.Goals as goal
+
+pub returns : goal.returns
+returns c =
+    let entries = entries_of c.args.responses.now in
+    Decides-like c.all.result (λ h n m. (m, h n m.0 m.1)) (λ h n low high. (h n (low, high)).1)
+    (all_decided c.new.result 1 entries.metered c.new.ensures.start (c.new.ensures.end ∙ c.buses.ensures.value) c.new.ensures.exhausted _ _ (λ a b q h. search rules) (λ n. entries.has n ≡ true) (λ n t low high h. search rules) _ c.all.ensures.runs)

@@ -1,6 +1,0 @@
-use Rattle.drawing.specs.Responses.{entries_of}
-use Rattle.drawing.proofs.Wirings.{ParentTo}
-use Rattle.drawing.proofs.wiring.parent.Given as goal
-
-abbrev pub invariant-loop-other : goal.invariant-loop-other
-invariant-loop-other l = ParentTo (entries_of l.responses) l.seating l.bus l.other l.parent

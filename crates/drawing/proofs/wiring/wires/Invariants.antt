@@ -1,6 +1,0 @@
-use Rattle.drawing.specs.Responses.{entries_of}
-use Rattle.drawing.proofs.Wirings.{WiredTo}
-use Rattle.drawing.proofs.wiring.wires.Given as goal
-
-abbrev pub invariant-loop-bus : goal.invariant-loop-bus
-invariant-loop-bus l = WiredTo (entries_of l.responses) l.seating l.bus l.lines

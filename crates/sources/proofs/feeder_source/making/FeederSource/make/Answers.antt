@@ -1,0 +1,28 @@
+use Rattle.std.proofs.Common.{◌≡◌, ◌≤◌, length, Ok, sym, ap, ◌∙◌, arith}
+use Rattle.feeder.specs.View.{lines_of}
+use Rattle.sources.specs.LineFacts.{feeder_facts}
+use Rattle.sources.specs.LineMaking.{first_misplaced}
+use Rattle.sources.proofs.Entries.{steady_copies, made_means, make_accepted}
+use Rattle.sources.proofs.feeder_source.making.FeederSource.make.Goals as goal
+
+pub invariant_of-self : goal.invariant_of-self
+invariant_of-self c =
+    let count = ap length c.same_lines.ensures in
+    let stood = c.in_ok-voltages.ensures in
+    record {
+      few = (omega (arith, count, c.buses-buses.ensures), omega (arith, count, c.buses-buses.ensures));
+      steady = steady_copies c.args.standing.now c.in_ok-voltages.voltages stood.0 stood.1;
+    }
+
+pub returns : goal.returns
+returns c =
+    let F = lines_of c.args.map.now in
+    let xs = c.args.inverters.now in
+    let ys = c.args.standing.now in
+    let marked = c.in_ok-marks.ensures in
+    let stood = c.in_ok-voltages.ensures in
+    let few : length F ≤ 64 = omega arith in
+    let long : length ys ≡ length F = omega arith in
+    let means = ap (λ G. feeder_facts G c.in_ok-marks.marks c.in_ok-voltages.voltages c.new.result.thousandths) c.same_lines.ensures ∙ ap (feeder_facts F c.in_ok-marks.marks c.in_ok-voltages.voltages) c.new.ensures ∙ made_means F xs ys c.in_ok-marks.marks c.in_ok-voltages.voltages few marked.1 stood.1 in
+    let placed = ap (λ n. first_misplaced n xs) (sym c.buses-buses.ensures) ∙ marked.0 in
+    make_accepted F xs ys (omega arith) few placed long stood.0 ∙ ap Ok (sym means)

@@ -1,0 +1,33 @@
+ghost use Rattle.std.specs.Prelude.{◌≡◌};
+ghost use Rattle.probing.specs.Facts.{Facts, Bounded, metered};
+ghost use Rattle.sources.specs.GridFacts.{standing_heard};
+
+// The most metered buses that a source has.
+pub(crate) const MOST_METERED: usize = 64;
+
+// What a source of our own answers from. It means the facts with every inverter on its schedule.
+pub trait Grid {
+    ghost idle: { Self → Facts };
+
+    fn buses(&self) -> usize
+        ensures { result ≡ (idle self.now).buses };
+
+    fn is_metered(&self, bus: usize) -> bool
+        ensures { result ≡ metered (idle self.now) bus }
+    {
+        (1..=self.buses()).contains(&bus)
+    }
+
+    fn has_inverter(&self, bus: usize) -> bool
+        ensures { result ≡ (idle self.now).inverter bus };
+
+    // The standing voltage of a bus that can be read.
+    fn standing(&self, bus: usize) -> Option<i64>
+        ensures { result ≡ standing_heard (idle self.now) bus };
+
+    // The response of a bus to an inverter, 0 where one of them is none.
+    fn response(&self, bus: usize, inverter: usize) -> i64
+        ensures { result ≡ (idle self.now).response bus inverter };
+
+    ghost bounded: { (grid : Self) → Bounded (idle grid) };
+}
