@@ -1,5 +1,5 @@
 use feeder::Line;
 
-pub fn line(parent: usize, resistance: u32) -> Line {
+pub(crate) fn line(parent: usize, resistance: u32) -> Line {
     Line { parent, resistance }
 }
