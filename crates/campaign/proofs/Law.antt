@@ -216,16 +216,16 @@ withdraws f₀ got c m size h =
 numbered_parts : (m : ℕ) → numbered m ≡ true → (1 ≤ m) × (m ≤ 64)
 numbered_parts m h = let parts = and_parts (leb 1 m) (leb m 64) h in (leb-true _ _ parts.0, leb-true _ _ parts.1)
 
-column_here : (c : Campaign) (m : ℕ) (responses : List ℤ) → length c.columns ≡ 64 → numbered m ≡ true → column_of (collected c m responses) m ≡ Some responses
+column_here : (c : Campaign) (m : ℕ) (responses : List ℤ) → length c.columns ≡ 64 → numbered m ≡ true → column_of (collected c m responses) m ≡ Some (record { responses = responses })
 column_here c m responses long number =
     let within = numbered_parts m number in
-    get_or-set_same c.columns (m - 1) (Some responses) blank (omega (arith, long, within.0, within.1))
+    get_or-set_same c.columns (m - 1) (Some (record { responses = responses })) blank (omega (arith, long, within.0, within.1))
 
 column_there : (c : Campaign) (m k : ℕ) (responses : List ℤ) → numbered m ≡ true → numbered k ≡ true → (k ≡ m → ⊥) → column_of (collected c m responses) k ≡ column_of c k
 column_there c m k responses number number' other =
     let within = numbered_parts m number in
     let within' = numbered_parts k number' in
-    get_or-set_other c.columns (m - 1) (k - 1) (Some responses) blank (λ e. other (omega (arith, within.0, within'.0, e)))
+    get_or-set_other c.columns (m - 1) (k - 1) (Some (record { responses = responses })) blank (λ e. other (omega (arith, within.0, within'.0, e)))
 
 -- the change at each bus is its response times the step, and the quotient its response
 pub change_is : (f₀ : Facts) → Bounded f₀ → (c : Campaign) (m : ℕ) (size : ℤ) → Pending f₀ c m size → (n : ℕ) → metered f₀ n ≡ true → change_of (with_setting f₀ m size) c n ≡ f₀.response n m *ℤ size
@@ -284,7 +284,7 @@ collects_one f₀ bounds got c m size number h =
       remembers = h.remembers;
       buses = h.buses;
       inverters = h.inverters;
-      long = length-set c.columns (m - 1) (Some (column f₀ c m size)) ∙ h.long;
+      long = length-set c.columns (m - 1) (Some (record { responses = column f₀ c m size })) ∙ h.long;
       pending = λ m' size' e. keeps m' size' m (column f₀ c m size) (h.pending m' size' e);
       columns = collects_columns f₀ bounds got c m size number h;
       collected = collects_present f₀ got c m size number h;

@@ -5,3 +5,4 @@ pub mod Stepping
 pub mod Rising
 pub mod Looks
 pub mod Whole
+pub mod Certain

@@ -1,23 +1,26 @@
 -- The inverters of a source as a list, and a test on all of 1 to k.
-use Rattle.std.proofs.Common.{◌≡◌, ℕ, zero, suc, ◌+◌, ◌-◌, ◌<◌, ◌≤◌, Bool, true, false, ◌&&◌, eqb, leb, List, length, get_or, ℤ, Ok, Err, sym, refl, ap, ◌∙◌, subst, inl, inr, add-one, arith}
+use Rattle.std.proofs.Common.{◌≡◌, ℕ, zero, suc, ◌+◌, ◌-◌, ◌<◌, ◌≤◌, Bool, true, false, not, ◌&&◌, eqb, leb, List, [], ◌∷◌, length, get_or, ℤ, Ok, Err, Result, sym, refl, ap, ◌∙◌, inl, inr, arith}
 use mathlib.Core.Bool.{beq}
 use denote.Param.Members.{Mut}
 use Rattle.std.specs.Fn.{Called}
-use Rattle.std.specs.Array.{IsFromFnResultFrom, IsFromFnResult}
+use Rattle.std.specs.Array.{IsFromFnResult}
 use Rattle.std.specs.Cmp.{booleans_Decides}
 use Rattle.std.specs.Cmp.Lexicographic.{pointwise}
 use Rattle.std.proofs.lemmas.Bool.Decides.{same_from_decides}
 use Rattle.std.proofs.lemmas.Slice.Eq.{slice_eq-Decides}
 use Rattle.std.proofs.lemmas.List.FromFn.{length-map-range_with_len, get_or-map-range_with_len}
 use Rattle.std.proofs.lemmas.List.{same_lists, get_or_default}
-use Rattle.std.proofs.lemmas.Bool.{cases_eq, and_parts, and_from, and_left, and_right, le-leb, leb-true, eq-eqb, eqb-true}
+use Rattle.std.proofs.lemmas.Bool.{cases_eq, and_parts, and_from, le-leb, leb-true, eq-eqb, eqb-true}
 use Rattle.probing.specs.declared.fault.SourceFault.{SourceFault}
-use Rattle.probing.specs.Answers.{withdraw_of}
+use Rattle.probing.specs.Answers.{first_refusal, withdraw_of}
+use Rattle.probing.proofs.Arrays.{each_made}
 use Rattle.probing.proofs.Probes.{withdraw_accepted}
 use Rattle.probing.specs.Facts.{Facts, Bounded}
+use Rattle.campaign.specs.declared.fault.CampaignFault.{CampaignFault}
+use Rattle.campaign.specs.declared.fault.CampaignFault.TheVariants.{NotThisCampaign}
 use Rattle.campaign.specs.declared.state.Campaign.{Campaign}
 use Rattle.campaign.specs.Columns.{numbered, has_inverter, all_to, alike, same, is_step, is_outstanding}
-use Rattle.campaign.specs.Relations.{inverter_list}
+use Rattle.campaign.specs.Relations.{inverter_list, withdrawal_of}
 
 -- the list of inverters
 
@@ -36,18 +39,9 @@ inverters_are f xs d long told =
     (λ k e lt. let under : k < 64 = omega (arith, long) in get_or_default xs k e d lt ∙ told k under ∙ sym (inverters_at f k e under))
 
 -- the array that a closure makes of its indices, where its calls leave it as it is
-made_at : {F B : Type 0} (g : Mut F (ℕ × Unit {0}) B) (f : F) (of : ℕ → B) → ((i : ℕ) (y : B) (q : F) → Called g f (i, tt) y q → (y ≡ of i) × (q ≡ f)) → (ys : List B) (d : B) (i n : ℕ) → IsFromFnResultFrom g f ys i n → (k : ℕ) → i ≤ k → k < i + n → get_or ys k d ≡ of k
-made_at g f of gives ys d i zero made k from below = absurd (omega arith)
-made_at g f of gives ys d i (suc n) made k from below =
-    let told = gives i made.1 made.0 made.3 in
-    elim (cases_eq k i) [
-      | inl at ↦ ap (λ j. get_or ys j d) at ∙ made.2.1 d ∙ told.0 ∙ ap of (sym at)
-      | inr other ↦ made_at g f of gives ys d (i + 1) n (subst (λ p. IsFromFnResultFrom g p ys (i + 1) n) told.1 made.4) k (omega arith) (omega arith)
-    ]
-
 pub inverters_made : {F : Type 0} (g : Mut F (ℕ × Unit {0}) Bool) (p : F) (f : Facts) → ((i : ℕ) (y : Bool) (q : F) → Called g p (i, tt) y q → (y ≡ f.inverter (i + 1)) × (q ≡ p)) → (xs : List Bool) → IsFromFnResult g p xs 64 → xs ≡ inverter_list f
 inverters_made g p f gives xs made =
-    inverters_are f xs false made.long (λ k under. made_at g p (λ i. f.inverter (i + 1)) gives xs false 0 64 made.each k (omega arith) (omega arith))
+    inverters_are f xs false made.long (λ k under. each_made g (λ i y. y ≡ f.inverter (i + 1)) p gives xs 64 made k false under)
 
 -- a test on all of 1 to k
 
@@ -118,6 +112,15 @@ same_inverter f c h m has =
 
 pub outstanding_has : (c : Campaign) (m : ℕ) (size : ℤ) → is_outstanding c m size ≡ true → has_inverter c m ≡ true
 outstanding_has c m size h = (and_parts (is_step c.outstanding m size) (has_inverter c m) h).1
+
+-- a campaign that knows a source and a step was opened on the one, and the other is outstanding
+pub known : (f : Facts) (c : Campaign) (m : ℕ) (size : ℤ) → Ok tt ≡ withdrawal_of f c m size → (same f c ≡ true) × (is_outstanding c m size ≡ true)
+known f c m size h = both (same f c) (is_outstanding c m size) h
+  where
+    both : (a b : Bool) → ◌≡◌ {A = Result (Unit {0}) CampaignFault} (Ok tt) (first_refusal ((not a, NotThisCampaign m) ∷ (not b, NotThisCampaign m) ∷ []) (Ok tt)) → (a ≡ true) × (b ≡ true)
+    both true true h = (refl, refl)
+    both true false h = absurd (let z : ◌≡◌ {A = ℕ} 0 1 = cc in omega arith)
+    both false b h = absurd (let z : ◌≡◌ {A = ℕ} 0 1 = cc in omega arith)
 
 -- a source that matches does not refuse to withdraw the outstanding step
 pub withdraw_stands : (f : Facts) (c : Campaign) (m : ℕ) (size : ℤ) (e : SourceFault) → same f c ≡ true → is_outstanding c m size ≡ true → Err e ≡ withdraw_of f m → ⊥

@@ -1,9 +1,8 @@
 -- Calls without a look are a history among any looks.
-use Rattle.std.proofs.Common.{◌≡◌, ℕ, ◌||◌, [], ◌∷◌, Ok, Err, Option, refl, ap, ◌∙◌}
+use Rattle.std.proofs.Common.{◌≡◌, ℕ, ◌||◌, [], ◌∷◌, Ok, Err, refl, ap, ◌∙◌}
 use Rattle.probing.specs.Facts.{Facts}
 use Rattle.campaign.specs.declared.state.Campaign.{Campaign}
-use Rattle.campaign.specs.declared.state.Outstanding.{Outstanding}
-use Rattle.campaign.specs.History.{Call, commencing, collecting, withdrawing, withdrawing_fresh, looking, Calls, outstanding, outstanding_after, collects, collected_for, History, opened, called, Happens}
+use Rattle.campaign.specs.History.{Call, commencing, collecting, withdrawing, withdrawing_fresh, looking, Calls, collects, collected_for, History, opened, called, Happens}
 use Rattle.campaign.specs.Probes.{NoLook}
 
 abbrev pub call_among : {Look : Type 0} → Call ⊥ → Call Look
@@ -29,23 +28,7 @@ history_among Told f₀ c₀ calls f c opened = opened
 history_among Told f₀ c₀ calls f c (called {calls = earlier} {f = g} {c = d} crew call before r) =
     called crew (call_among call) (history_among Told f₀ c₀ earlier g d before) (happens_among Told call g d f c r)
 
--- with the same step outstanding
-
-after_among : (Look : Type 0) (call : Call ⊥) (o : Option Outstanding) → outstanding_after {Look = Look} (call_among call) o ≡ outstanding_after call o
-after_among Look (commencing m size (Ok x)) o = refl
-after_among Look (commencing m size (Err e)) o = refl
-after_among Look (collecting step answer) o = refl
-after_among Look (withdrawing step (Ok x)) o = refl
-after_among Look (withdrawing step (Err e)) o = refl
-after_among Look (withdrawing_fresh step (Ok x)) o = refl
-after_among Look (withdrawing_fresh step (Err e)) o = refl
-after_among Look (looking look) o = absurd look
-
-pub outstanding_among : (Look : Type 0) (calls : Calls ⊥) → outstanding {Look = Look} (among calls) ≡ outstanding calls
-outstanding_among Look [] = refl
-outstanding_among Look (latest ∷ calls) = after_among Look latest.1 (outstanding {Look = Look} (among calls)) ∙ ap (outstanding_after latest.1) (outstanding_among Look calls)
-
--- and the same inverters collected for
+-- with the same inverters collected for
 
 collects_among : (Look : Type 0) (m : ℕ) (call : Call ⊥) → collects {Look = Look} m (call_among call) ≡ collects m call
 collects_among Look m (commencing k size answer) = refl

@@ -1,49 +1,17 @@
 -- Dividing the change that a step made by the step.
-use Rattle.std.proofs.Common.{◌≡◌, ℕ, zero, suc, ◌+◌, ◌-◌, ◌*◌, ◌/◌, ◌^◌, ◌<◌, ◌≤◌, Bool, true, false, cond, not, List, get_or, ℤ, pos, negsuc, ◌-ℤ◌, ◌*ℤ◌, nat_abs, is_some, Some, None, Ok, Err, Option, sym, refl, ap, ◌∙◌, subst, inl, inr, mul-div_cancel, arith, w32, w64, SFits}
+use Rattle.std.proofs.Common.{◌≡◌, ℕ, zero, suc, ◌+◌, ◌-◌, ◌*◌, ◌/◌, ◌<◌, ◌≤◌, Bool, true, false, cond, not, List, ◌++◌, length, get_or, drop, replicate, ℤ, pos, negsuc, ◌-ℤ◌, ◌*ℤ◌, nat_abs, is_some, Some, None, Ok, Err, Option, sym, refl, ap, ◌∙◌, mul-div_cancel, arith}
 use borrow.Author.Differences.{up, down, product_is}
-use lib.Signed.{mag, nat_abs-le}
-use Rattle.std.proofs.lemmas.Int.{ints, unsigned_abs-mul}
-use Rattle.std.proofs.lemmas.Nat.{mul-le}
-use Rattle.std.proofs.lemmas.Bool.{cases_eq, cond-true, eq-eqb}
+use Rattle.std.proofs.lemmas.Int.{ints}
 use Rattle.probing.specs.Facts.{Facts, Bounded, voltage}
 use Rattle.probing.specs.Answers.{lowest, and_then, read_all_of}
-use Rattle.probing.proofs.Readings.{Filled, filled_all, lowest_stays, lowest_here, lowest_same, per_bus_same, per_bus_of, read_heard}
+use Rattle.probing.proofs.Readings.{filled_before, lowest_stays, lowest_here, lowest_same, per_bus_same, per_bus_of, read_heard}
 use Rattle.campaign.specs.declared.fault.CampaignFault.TheVariants.{NotThisCampaign, NotMultiple}
 use Rattle.campaign.specs.declared.state.Campaign.{Campaign}
 use Rattle.campaign.specs.Columns.{same, is_outstanding}
 use Rattle.campaign.specs.Relations.{from_source, or_zero, quotients, evenly, divided_of, difference, change_of, collect_of}
 use Rattle.campaign.proofs.Lists.{same_buses}
-use Rattle.units.specs.Quotients.{Divides, Moderate, response_of}
+use Rattle.units.specs.Quotients.{Divides, response_of}
 use Rattle.units.proofs.Division.{divides}
-
-unsigned_abs_zero : (z : ℤ) → nat_abs z ≡ 0 → z ≡ pos 0
-unsigned_abs_zero z h = omega (arith, ints)
-
-zero_unsigned_abs : (z : ℤ) → z ≡ pos 0 → nat_abs z ≡ 0
-zero_unsigned_abs z h = omega (arith, ints)
-
-none_is : (o : Option ℤ) (change step : ℤ) → Divides change step o → ((q : ℤ) → Moderate q → q *ℤ step ≡ change → ⊥) → o ≡ None
-none_is None change step d never = refl
-none_is (Some q) change step d never = absurd (never q d.1 d.0)
-
-mag_below : (z : ℤ) (h : ℕ) → nat_abs z < h → mag z < h
-mag_below (pos n) h lt = lt
-mag_below (negsuc n) h lt = omega arith
-
-product_fits : (q change step : ℤ) → nat_abs q ≤ 1000000 → SFits w32 step → q *ℤ step ≡ change → SFits w64 change
-product_fits q change step m fits e =
-    let most = mul-le (nat_abs q) (nat_abs step) 1000000 (2 ^ 31) m (nat_abs-le step fits.sfits) in
-    let is = unsigned_abs-mul q step in
-    let at = ap nat_abs e in
-    record { sfits = mag_below change (2 ^ 63) (omega (arith, most, is, at)) }
-
--- a change that fits no 64 bits is no moderate multiple of a step of 32 bits
-pub too_large : (change step : ℤ) → (SFits w64 change → ⊥) → SFits w32 step → None ≡ response_of change step
-too_large change step wide fits =
-    elim (cases_eq (nat_abs step) 0) [
-      | inl zeroed ↦ sym (cond-true _ _ _ (eq-eqb _ _ zeroed))
-      | inr other ↦ sym (none_is (response_of change step) change step (divides change step (λ z. other (zero_unsigned_abs step z))) (λ q m e. wide (product_fits q change step m fits e)))
-    ]
 
 cancel_nat : (a b k : ℕ) → a * suc k ≡ b * suc k → a ≡ b
 cancel_nat a b k e = sym (mul-div_cancel a {n = suc k} (omega arith)) ∙ ap (λ n. n / suc k) e ∙ mul-div_cancel b {n = suc k} (omega arith)
@@ -78,9 +46,11 @@ some_even o q h = ap (λ p. not (is_some p)) (sym h)
 pub none_uneven : (o : Option ℤ) → None ≡ o → not (is_some o) ≡ true
 none_uneven o h = ap (λ p. not (is_some p)) (sym h)
 
-pub divided_all : (last i : ℕ) (change : ℕ → ℤ) (size : ℤ) (xs : List ℤ) → last ≤ 64 → i ≡ last → lowest i (λ n. not (is_some (response_of (change n) size))) ≡ None → Filled (λ n. or_zero (response_of (change n) size)) i xs → Ok xs ≡ divided_of last change size
-divided_all last i change size xs few at none h =
-    ap Ok (filled_all last (λ n. or_zero (response_of (change n) size)) xs few (subst (λ k. Filled (λ n. or_zero (response_of (change n) size)) k xs) at h)) ∙
+pub divided_all :
+    (last i : ℕ) (change : ℕ → ℤ) (size : ℤ) (xs : List ℤ) → last ≤ 64 → i ≡ last → length xs ≡ last → lowest i (λ n. not (is_some (response_of (change n) size))) ≡ None →
+    ((k : ℕ) → k < i → get_or xs k (pos 0) ≡ or_zero (response_of (change (k + 1)) size)) → Ok (xs ++ drop last (replicate 64 (pos 0))) ≡ divided_of last change size
+divided_all last i change size xs few at long none told =
+    ap Ok (filled_before last (λ n. or_zero (response_of (change n) size)) xs few long (λ k lt. told k (omega (arith, at)))) ∙
     ap (λ o. evenly o (quotients last change size)) (sym none ∙ ap (λ k. lowest k (λ n. not (is_some (response_of (change n) size)))) at)
 
 pub divided_stops : (last i : ℕ) (change : ℕ → ℤ) (size : ℤ) → i < last → lowest i (λ n. not (is_some (response_of (change n) size))) ≡ None → None ≡ response_of (change (i + 1)) size → Err (NotMultiple (i + 1)) ≡ divided_of last change size

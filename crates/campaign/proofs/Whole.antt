@@ -15,7 +15,7 @@ use Rattle.campaign.specs.declared.state.Campaign.{Campaign}
 use Rattle.campaign.specs.Columns.{has_inverter, same, present, entry}
 use Rattle.campaign.specs.Relations.{opening_of}
 use Rattle.campaign.specs.History.{Calls, collected_for, Kept}
-use Rattle.campaign.specs.Drawings.{columns_of, missing, bare, Moderate, Draws, incomplete, unequipped, nowhere, drawn, Drawing, Looks, responses_of, CampaignLaw}
+use Rattle.campaign.specs.Drawings.{columns_of, missing, bare, Moderate, Draws, incomplete, unequipped, nowhere, drawn, Drawing, Looks, responses_of, CampaignLaw, StaysModerate}
 use Rattle.campaign.proofs.Lists.{same_buses, same_inverter, same_has}
 use Rattle.campaign.proofs.Law.{kept}
 
@@ -67,7 +67,7 @@ module _ (f₀ : Facts) (bounds : Bounded f₀) {calls : Calls Drawing} {f : Fac
   all_present e m l h t =
       ⊎_elim (λ p. p) (λ n. absurd (both_ways _ (lowest_fails c.buses m (λ m. has_inverter c m && not (present c m)) e l h) (and_from (has_inverter c m) (not (present c m)) t (ap not n)))) (cases_Bool (present c m))
 
-  moderate : Moderate c
+  pub moderate : Moderate c
   moderate =
       record {
         few = omega (arith, buses, bounds.few);
@@ -118,3 +118,6 @@ campaign_law f₀ bounds calls f c h =
       refused = λ every d l. refused_source f₀ bounds k d.kind d.before d.after d.answer (all_collected f₀ bounds k every) l;
       drawn = λ d l e. accepted_source f₀ bounds k d.kind d.before d.after d.answer l e;
     }
+
+pub stays_moderate : (f₀ : Facts) → Bounded f₀ → StaysModerate f₀ (opening_of f₀)
+stays_moderate f₀ bounds calls f c h = moderate f₀ bounds (kept Looks f₀ bounds calls f c h)

@@ -1,7 +1,8 @@
 -- What a campaign holds: its buses and inverters, its outstanding step, its columns.
-use Rattle.std.specs.Prelude.{ℕ, zero, suc, ◌-◌, Bool, true, false, cond, not, ◌&&◌, List, ℤ, pos, ◌-ℤ◌, is_some, Some, None, Option, ◌==◌, nat_le, slice_index_or, unsigned_abs}
+use Rattle.std.specs.Prelude.{ℕ, zero, suc, ◌-◌, Bool, true, false, cond, not, ◌&&◌, ℤ, pos, ◌-ℤ◌, is_some, Some, None, Option, ◌==◌, nat_le, slice_index_or, unsigned_abs}
 use Rattle.probing.specs.Facts.{Facts}
 use Rattle.campaign.specs.declared.state.Campaign.{Campaign}
+use Rattle.campaign.specs.declared.state.Column.{Column}
 use Rattle.campaign.specs.declared.state.Outstanding.{Outstanding}
 
 -- 1 to 64
@@ -35,11 +36,11 @@ abbrev pub is_outstanding : Campaign → ℕ → ℤ → Bool
 is_outstanding c m size = is_step c.outstanding m size && has_inverter c m
 
 -- a column that was not collected
-abbrev pub blank : Option (List ℤ)
+abbrev pub blank : Option Column
 blank = None
 
 -- the column of inverter m, if it was collected
-abbrev pub column_of : Campaign → ℕ → Option (List ℤ)
+abbrev pub column_of : Campaign → ℕ → Option Column
 column_of c m = slice_index_or c.columns (m - 1) blank
 
 -- is the column of inverter m present?
@@ -47,9 +48,9 @@ abbrev pub present : Campaign → ℕ → Bool
 present c m = numbered m && is_some (column_of c m)
 
 -- the response of bus n in a column, and 0 in one that was not collected
-abbrev pub entry_in : Option (List ℤ) → ℕ → ℤ
+abbrev pub entry_in : Option Column → ℕ → ℤ
 entry_in None n = pos 0
-entry_in (Some responses) n = slice_index_or responses (n - 1) (pos 0)
+entry_in (Some column) n = slice_index_or column.responses (n - 1) (pos 0)
 
 -- the response of bus n in the column of inverter m
 abbrev pub entry : Campaign → ℕ → ℕ → ℤ

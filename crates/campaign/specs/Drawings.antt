@@ -47,6 +47,11 @@ pub data Draws (c : Campaign) (kind : Kind) (old : Map) : Result (Unit {0}) Draw
   nowhere : missing c ≡ None → bare kind c ≡ None → (Moderate c → NoFeeder kind (columns_of c)) → Draws c kind old (Err Nowhere) old
   drawn : (new : Map) → missing c ≡ None → bare kind c ≡ None → DrawnMap kind (columns_of c) new → Draws c kind old (Ok tt) new
 
+-- a drawing of a moderate campaign answers one thing, and leaves one map
+abbrev pub DrawingsAreAlone : Type 0
+DrawingsAreAlone =
+    (c : Campaign) (kind : Kind) (old : Map) (a b : Result (Unit {0}) DrawingFault) (m n : Map) → Moderate c → Draws c kind old a m → Draws c kind old b n → (a ≡ b) × (m ≡ n)
+
 -- a drawing as a call in a history: its kind, the map place before, the answer, the map place after
 pub record Drawing : Type 0 where
   pub kind : Kind
@@ -76,3 +81,7 @@ pub record Held (f₀ : Facts) (calls : Calls Drawing) (f : Facts) (c : Campaign
 -- The law of the campaign: every list of calls by the two crews, drawings of either kind among them, from the opening on.
 abbrev pub CampaignLaw : Facts → Campaign → Type 0
 CampaignLaw f₀ c₀ = (calls : Calls Drawing) (f : Facts) (c : Campaign) → History Looks f₀ c₀ calls f c → Held f₀ calls f c
+
+-- Every list of calls leaves the campaign moderate.
+abbrev pub StaysModerate : Facts → Campaign → Type 0
+StaysModerate f₀ c₀ = (calls : Calls Drawing) (f : Facts) (c : Campaign) → History Looks f₀ c₀ calls f c → Moderate c

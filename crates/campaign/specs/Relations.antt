@@ -10,6 +10,7 @@ use Rattle.campaign.specs.declared.fault.CampaignFault.{CampaignFault}
 use Rattle.campaign.specs.declared.fault.CampaignFault.TheVariants.{Source, StepOutstanding, NotThisCampaign, NotMultiple}
 use Rattle.campaign.specs.declared.fault.CampaignRefusal.{CampaignRefusal}
 use Rattle.campaign.specs.declared.state.Campaign.{Campaign}
+use Rattle.campaign.specs.declared.state.Column.{Column}
 use Rattle.campaign.specs.declared.state.Outstanding.{Outstanding}
 use Rattle.campaign.specs.declared.steps.Step.{Step}
 use Rattle.campaign.specs.declared.steps.Fresh.{Fresh}
@@ -27,7 +28,7 @@ unfoldable pub zeros : List ℤ
 zeros = replicate 64 (pos 0)
 
 -- 64 columns, none of them present
-unfoldable pub no_columns : List (Option (List ℤ))
+unfoldable pub no_columns : List (Option Column)
 no_columns = replicate 64 None
 
 -- the source's buses and inverters, no column, no outstanding step
@@ -118,7 +119,7 @@ collect_of f c m size =
 -- one column is replaced, and every other stays
 abbrev pub collected : Campaign → ℕ → List ℤ → Campaign
 collected c m responses =
-    record { buses = c.buses; inverters = c.inverters; outstanding = c.outstanding; before = c.before; columns = slice_set c.columns (m - 1) (Some responses) }
+    record { buses = c.buses; inverters = c.inverters; outstanding = c.outstanding; before = c.before; columns = slice_set c.columns (m - 1) (Some (record { responses = responses })) }
 
 -- the step, as one that was collected
 abbrev pub as_collected : Step Fresh → Result (List ℤ) CampaignFault → Result (Step Collected) CampaignFault

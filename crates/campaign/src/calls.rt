@@ -9,6 +9,7 @@ use crate::fault::{CampaignFault, CampaignRefusal};
 use crate::opening::inverters_of;
 use crate::state::{Campaign, Column, Outstanding};
 use crate::steps::{CollectedStep, FreshStep, Step};
+use feeder::MOST_METERED;
 use probing::{Source, read_all};
 use std::marker::PhantomData;
 use units::response;
@@ -30,6 +31,18 @@ impl Campaign {
             size: step.size,
         };
         self.outstanding == Some(named) && self.has_inverter(step.inverter)
+    }
+
+    // Checks that a source is the campaign's and a step the outstanding one.
+    fn knows<S: Source, P>(&self, source: &S, step: &Step<P>) -> Result<(), CampaignFault>
+        ensures { result ≡ withdrawal_of (S.Source.facts source.now) self.now step.now.inverter step.now.size }
+    {
+        if !self.matches(source) || !self.is_outstanding(step) {
+            return Err(CampaignFault::NotThisCampaign {
+                inverter: step.inverter,
+            });
+        }
+        Ok(())
     }
 
     // Commences, and leaves the naming of the inverter to the public call.
@@ -79,14 +92,14 @@ impl Campaign {
     }
 
     // The quotients of the outstanding step.
-    fn divide<S: Source>(&self, source: &S, step: &FreshStep) -> Result<Column, CampaignFault>
+    fn divide<S: Source>(
+        &self,
+        source: &S,
+        step: &FreshStep,
+    ) -> Result<[i64; MOST_METERED], CampaignFault>
         ensures { result ≡ collect_of (S.Source.facts source.now) self.now step.now.inverter step.now.size }
     {
-        if !self.matches(source) || !self.is_outstanding(step) {
-            return Err(CampaignFault::NotThisCampaign {
-                inverter: step.inverter,
-            });
-        }
+        self.knows(source, step)?;
         let after = read_all(source)?;
         quotients(&self.before, &after, self.buses, step.size)
     }
@@ -102,7 +115,7 @@ impl Campaign {
         let inverter = fresh.inverter;
         match self.divide(source, &fresh) {
             Ok(responses) => {
-                self.columns[inverter - 1] = Some(responses);
+                self.columns[inverter - 1] = Some(Column { responses });
                 let Step {
                     inverter,
                     size,
@@ -124,11 +137,7 @@ impl Campaign {
         ensures source { S.Source.facts source.new ≡ left result (with_setting (S.Source.facts source.old) step.now.inverter (pos 0)) (S.Source.facts source.old) }
         ensures campaign { self.new ≡ left result (ended self.old) self.old }
     {
-        if !self.matches(source) || !self.is_outstanding(step) {
-            return Err(CampaignFault::NotThisCampaign {
-                inverter: step.inverter,
-            });
-        }
+        self.knows(source, step)?;
         source.withdraw(step.inverter)?;
         self.outstanding = None;
         Ok(())
@@ -166,19 +175,19 @@ fn quotient(before: i64, after: i64, size: i32) -> Option<i64>
 
 // The response of each bus, or the lowest bus whose change is no whole multiple of the step, or too large a one.
 fn quotients(
-    before: &[i64; 64],
-    after: &[i64; 64],
+    before: &[i64; MOST_METERED],
+    after: &[i64; MOST_METERED],
     buses: usize,
     size: i32,
-) -> Result<Column, CampaignFault>
+) -> Result<[i64; MOST_METERED], CampaignFault>
     requires { buses ≤ 64 }
     ensures { result ≡ divided_of buses (difference before.now after.now) size }
 {
     // A loop, since the fault is the lowest bus's: try_from_fn does not promise that its error is the first one.
-    let mut responses = [0; 64];
-    for i in 0..buses {
-        responses[i] = quotient(before[i], after[i], size).ok_or(CampaignFault::NotMultiple {
-            bus: i + 1,
+    let mut responses = [0; MOST_METERED];
+    for (index, response) in responses[..buses].iter_mut().enumerate() {
+        *response = quotient(before[index], after[index], size).ok_or(CampaignFault::NotMultiple {
+            bus: index + 1,
         })?;
     }
     Ok(responses)

@@ -1,8 +1,14 @@
 ghost use Rattle.std.specs.Prelude.{◌≡◌, None, option_copied, if◌then◌else◌};
 ghost use Rattle.campaign.specs.Columns.{numbered, has_inverter, column_of, present, response_in};
 
+use feeder::MOST_METERED;
+
 // What was collected for an inverter: the response of each bus, bus n at n - 1.
-pub type Column = [i64; 64];
+#[derive(Clone, Copy, PartialEq, Eq, Debug)]
+pub struct Column {
+    // An array and no `ArrayVec`: how many places are used is said once, by the campaign.
+    pub(crate) responses: [i64; MOST_METERED],
+}
 
 // The step that was handed out and not taken back.
 #[derive(Clone, Copy, PartialEq, Eq, Debug)]
@@ -15,14 +21,15 @@ pub struct Outstanding {
 // that step, and the columns that were collected. What is of bus n stands at n - 1.
 #[derive(Drop)]
 pub struct Campaign {
-    // How many of the fixed places are used.
+    // How many of the fixed places are used, by each of the arrays: `ArrayVec`s would each hold this number again.
     pub(crate) buses: usize,
-    pub(crate) inverters: [bool; 64],
+    // Not in the columns: a source's inverters are compared with these as a whole.
+    pub(crate) inverters: [bool; MOST_METERED],
     pub(crate) outstanding: Option<Outstanding>,
     // Not in the outstanding step: by the law of histories that is known by its inverter and size alone, so with the
     // readings in it each of its clauses would have to take them off again, which is no plainer.
-    pub(crate) before: [i64; 64],
-    pub(crate) columns: [Option<Column>; 64],
+    pub(crate) before: [i64; MOST_METERED],
+    pub(crate) columns: [Option<Column>; MOST_METERED],
 }
 
 impl Campaign {
@@ -37,7 +44,7 @@ impl Campaign {
     pub fn has_inverter(&self, bus: usize) -> bool
         ensures { result ≡ has_inverter self.now bus }
     {
-        (1..=64).contains(&bus) && self.inverters[bus - 1]
+        (1..=MOST_METERED).contains(&bus) && self.inverters[bus - 1]
     }
 
     // The column of an inverter, if it is present.
@@ -58,6 +65,7 @@ impl Campaign {
     pub fn response(&self, bus: usize, inverter: usize) -> Option<i64>
         ensures { result ≡ response_in self.now bus inverter }
     {
-        self.column(inverter)?.get(bus.checked_sub(1)?).copied()
+        let column = self.column(inverter)?;
+        column.responses.get(bus.checked_sub(1)?).copied()
     }
 }

@@ -16,11 +16,7 @@ impl Campaign {
         requires outstanding { is_outstanding self.old step.inverter step.size ≡ true }
         ensures { Withdraws (S.Source.facts source.old) self.old step step.inverter step.size (Ok tt) (S.Source.facts source.new) self.new }
     {
-        // No unwrap, which could let a step in the error go: the compiler refuses that.
-        match self.withdraw(source, step) {
-            Ok(()) => {}
-            Err(_) => unreachable(),
-        }
+        self.withdraw(source, step).unwrap();
     }
 
     // Probes one inverter: commences a step, collects it and withdraws it.

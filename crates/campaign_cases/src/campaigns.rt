@@ -1,4 +1,4 @@
-use crate::given::{MUTE, THREE, refused, table, three_buses, three_standing};
+use crate::given::{MUTE, THREE, table, three_buses, three_standing, told};
 use crate::hands::{foreign, hand_over, second, swapped};
 use campaign::{Campaign, CampaignRefusal, open_campaign, probe_all};
 use probing::Source;
@@ -7,25 +7,31 @@ use sources::TableSource;
 use std::process::Abort;
 use std::test::Fail;
 
-// Whether a call that named the inverter was refused so.
-fn refused_of<T: Drop>(
+// Whether a refusal names this inverter, and is told so.
+fn told_of(
     rt: &impl Abort,
-    answer: Result<T, CampaignRefusal>,
+    refusal: CampaignRefusal,
+    inverter: usize,
+    layer: Layer,
+    number: u8,
+    place: usize,
+) {
+    assert_eq!(rt; refusal.inverter, inverter);
+    told(rt, refusal.fault, layer, number, place);
+}
+
+// Whether a probing that named the inverter was refused so.
+fn refused_of(
+    rt: &impl Abort,
+    answer: Result<(), CampaignRefusal>,
     inverter: usize,
     layer: Layer,
     number: u8,
     place: usize,
 ) -> Result<(), Fail> {
-    if let Err(refusal) = &answer {
-        assert_eq!(rt; refusal.inverter, inverter);
-    }
-    refused(
-        rt,
-        answer.map_err(|refusal| refusal.fault),
-        layer,
-        number,
-        place,
-    )
+    let refusal = answer.err().ok_or("accepted")?;
+    told_of(rt, refusal, inverter, layer, number, place);
+    Ok(())
 }
 
 // The column of an inverter over three buses.
@@ -171,7 +177,7 @@ fn a_second_step_is_refused(rt: HostRuntime) -> Result<(), Fail> {
     let mut source = table(THREE)?;
     let mut campaign = open_campaign(&source);
     let refusal = second(&mut campaign, &mut source, 2, 3, 100)?;
-    refused_of(&rt, Err::<(), _>(refusal), 3, Layer::Campaign, 11, 2)?;
+    told_of(&rt, refusal, 3, Layer::Campaign, 11, 2);
     no_column(&rt, &campaign, 2);
     assert_eq!(rt; source.setting(2), 0);
     campaign.probe(&mut source, 3, 100)?;
@@ -184,7 +190,7 @@ fn a_step_of_another_campaign(rt: HostRuntime) -> Result<(), Fail> {
     let mut source = table(THREE)?;
     let mut campaign = open_campaign(&source);
     let refusal = foreign(&mut campaign, &mut source, 2, 100)?.ok_or("collected")?;
-    refused_of(&rt, Err::<(), _>(refusal), 2, Layer::Campaign, 14, 2)?;
+    told_of(&rt, refusal, 2, Layer::Campaign, 14, 2);
     no_column(&rt, &campaign, 2);
     assert_eq!(rt; source.setting(2), 0);
     Ok(())
@@ -197,7 +203,7 @@ fn changed(rt: &impl Abort, standing: &[i64], bus: usize) -> Result<(), Fail> {
     let mut other = three_standing(standing)?;
     let mut campaign = open_campaign(&source);
     let refusal = swapped(&mut campaign, &mut source, &mut other, 2, 100)?.ok_or("collected")?;
-    refused_of(rt, Err::<(), _>(refusal), 2, Layer::Campaign, 15, bus)?;
+    told_of(rt, refusal, 2, Layer::Campaign, 15, bus);
     no_column(rt, &campaign, 2);
     assert_eq!(rt; source.setting(2), 0);
     Ok(())

@@ -1,4 +1,4 @@
-use crate::given::{THREE, line, refused, table, three, three_buses, three_lines};
+use crate::given::{THREE, has_line, leaves_three, table, three, three_buses};
 use campaign::{Campaign, open_campaign, probe_all};
 use drawing::draw_campaign;
 use feeder::{Kind, Map};
@@ -26,10 +26,13 @@ fn turned_down(
     number: u8,
     place: usize,
 ) -> Result<(), Fail> {
-    let mut map = three_lines()?;
-    let answer = draw_campaign(campaign, kind, &mut map);
-    refused(rt, answer, Layer::Drawing, number, place)?;
-    three(rt, &map)
+    leaves_three(
+        rt,
+        |map| draw_campaign(campaign, kind, map),
+        Layer::Drawing,
+        number,
+        place,
+    )
 }
 
 #[test]
@@ -81,9 +84,9 @@ fn a_fork_between_two_buses(rt: HostRuntime) -> Result<(), Fail> {
     turned_down(&rt, &campaign, Kind::Complete, 18, 0)?;
     let map = drawn(&campaign, Kind::Reduced)?;
     assert_eq!(rt; map.buses(), 3);
-    line(&rt, &map, 1, 3, 200);
-    line(&rt, &map, 2, 3, 500);
-    line(&rt, &map, 3, 0, 300);
+    has_line(&rt, &map, 1, 3, 200);
+    has_line(&rt, &map, 2, 3, 500);
+    has_line(&rt, &map, 3, 0, 300);
     Ok(())
 }
 
@@ -94,8 +97,8 @@ fn a_bus_below_another(rt: HostRuntime) -> Result<(), Fail> {
     )?;
     let map = drawn(&campaign, Kind::Reduced)?;
     assert_eq!(rt; map.buses(), 2);
-    line(&rt, &map, 1, 0, 300);
-    line(&rt, &map, 2, 1, 200);
+    has_line(&rt, &map, 1, 0, 300);
+    has_line(&rt, &map, 2, 1, 200);
     Ok(())
 }
 
@@ -123,9 +126,9 @@ fn a_fork_of_three(rt: HostRuntime) -> Result<(), Fail> {
     )?;
     let map = drawn(&campaign, Kind::Reduced)?;
     assert_eq!(rt; map.buses(), 4);
-    line(&rt, &map, 1, 4, 100);
-    line(&rt, &map, 2, 4, 100);
-    line(&rt, &map, 3, 4, 100);
-    line(&rt, &map, 4, 0, 300);
+    has_line(&rt, &map, 1, 4, 100);
+    has_line(&rt, &map, 2, 4, 100);
+    has_line(&rt, &map, 3, 4, 100);
+    has_line(&rt, &map, 4, 0, 300);
     Ok(())
 }

@@ -18,12 +18,13 @@ pub(crate) fn table(file: &[u8]) -> Result<TableSource, Fail> {
     Ok(source)
 }
 
-fn from(parent: usize, resistance: u32) -> Line {
+// The feeder cases have the same: two lines are less than a crate for both would be.
+fn line(parent: usize, resistance: u32) -> Line {
     Line { parent, resistance }
 }
 
 pub(crate) fn three_lines() -> Result<Map, Fail> {
-    Ok(Map::from_lines(3, &[from(0, 300), from(1, 200), from(1, 500)])?)
+    Ok(Map::from_lines(3, &[line(0, 300), line(1, 200), line(1, 500)])?)
 }
 
 // The feeder of three buses with inverters at buses 2 and 3, and these standing voltages.
@@ -39,7 +40,7 @@ pub(crate) fn three_buses() -> Result<FeederSource, Fail> {
 }
 
 // Whether a bus of a map has this parent and this resistance.
-pub(crate) fn line(rt: &impl Abort, map: &Map, bus: usize, parent: usize, resistance: u32) {
+pub(crate) fn has_line(rt: &impl Abort, map: &Map, bus: usize, parent: usize, resistance: u32) {
     assert_eq!(rt; map.parent(bus), Some(parent));
     assert_eq!(rt; map.resistance(bus), Some(resistance));
 }
@@ -47,10 +48,30 @@ pub(crate) fn line(rt: &impl Abort, map: &Map, bus: usize, parent: usize, resist
 // Whether a map has the lines of the three buses.
 pub(crate) fn three(rt: &impl Abort, map: &Map) -> Result<(), Fail> {
     assert_eq!(rt; map.buses(), 3);
-    line(rt, map, 1, 0, 300);
-    line(rt, map, 2, 1, 200);
-    line(rt, map, 3, 1, 500);
+    has_line(rt, map, 1, 0, 300);
+    has_line(rt, map, 2, 1, 200);
+    has_line(rt, map, 3, 1, 500);
     Ok(())
+}
+
+// Whether a fault is told with this layer, number and place: three arguments, since a literal of the struct at each call would be longer.
+// The other crates of cases compare refusals alike: one helper for all would need a crate of its own.
+pub(crate) fn told<E: Into<Refusal>>(
+    rt: &impl Abort,
+    fault: E,
+    layer: Layer,
+    number: u8,
+    place: usize,
+) {
+    let refusal: Refusal = fault.into();
+    assert_eq!(rt;
+        refusal,
+        Refusal {
+            number,
+            layer,
+            place,
+        }
+    );
 }
 
 // Whether a call is refused with this layer, number and place.
@@ -61,19 +82,22 @@ pub(crate) fn refused<T: Drop, E: Into<Refusal>>(
     number: u8,
     place: usize,
 ) -> Result<(), Fail> {
-    match answer {
-        Ok(_) => Err(Fail::new("accepted")),
-        Err(fault) => {
-            let refusal: Refusal = fault.into();
-            assert_eq!(rt;
-                refusal,
-                Refusal {
-                    number,
-                    layer,
-                    place,
-                }
-            );
-            Ok(())
-        }
-    }
+    let fault = answer.err().ok_or("accepted")?;
+    told(rt, fault, layer, number, place);
+    Ok(())
+}
+
+// Whether a call that puts a map in a place is refused so, and leaves the map of three buses there.
+pub(crate) fn leaves_three<E: Into<Refusal>, F: FnOnce(&mut Map) -> Result<(), E>>(
+    rt: &impl Abort,
+    call: F,
+    layer: Layer,
+    number: u8,
+    place: usize,
+) -> Result<(), Fail>
+    requires { F.IsAlwaysCallable call }
+{
+    let mut map = three_lines()?;
+    refused(rt, call(&mut map), layer, number, place)?;
+    three(rt, &map)
 }

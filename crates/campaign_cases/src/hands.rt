@@ -1,18 +1,34 @@
 // Steps that are held in the hand: each is withdrawn in the end, whatever the calls before answer.
-ghost use Rattle.std.specs.Prelude.{◌≡◌, true};
+ghost use Rattle.std.specs.Prelude.{◌≡◌, true, MatchResult};
 ghost use Rattle.campaign.specs.Columns.{same, is_outstanding};
 
-use campaign::{Campaign, CampaignRefusal, FreshStep, Step, open_campaign};
+use campaign::{Campaign, CampaignRefusal, CollectedStep, FreshStep, Step, open_campaign};
 use probing::Source;
 
-// Withdraws the outstanding step.
+// Withdraws the outstanding step. The campaign's own is private: it may be called only where no withdrawal is refused.
 fn put_back<S: Source, P>(campaign: &mut Campaign, source: &mut S, step: Step<P>)
     requires { (same (S.Source.facts source.old) campaign.old ≡ true) × (is_outstanding campaign.old step.inverter step.size ≡ true) }
 {
-    // No unwrap, which could let a step in the error go: the compiler refuses that.
-    match campaign.withdraw(source, step) {
-        Ok(()) => {}
-        Err(_) => unreachable(),
+    campaign.withdraw(source, step).unwrap();
+}
+
+// Withdraws the outstanding step, which a collection handed back: how it was refused, if it was.
+fn put_back_from<S: Source>(
+    campaign: &mut Campaign,
+    source: &mut S,
+    answer: Result<CollectedStep, (FreshStep, CampaignRefusal)>,
+) -> Option<CampaignRefusal>
+    requires { (same (S.Source.facts source.old) campaign.old ≡ true) × MatchResult answer (λ step. is_outstanding campaign.old step.inverter step.size ≡ true) (λ e. is_outstanding campaign.old e.0.inverter e.0.size ≡ true) }
+{
+    match answer {
+        Ok(collected) => {
+            put_back(campaign, source, collected);
+            None
+        }
+        Err((fresh, refusal)) => {
+            put_back(campaign, source, fresh);
+            Some(refusal)
+        }
     }
 }
 
@@ -25,13 +41,9 @@ pub(crate) fn second<S: Source>(
     step: i32,
 ) -> Result<CampaignRefusal, CampaignRefusal> {
     let fresh = campaign.commence(source, inverter, step)?;
-    match campaign.commence(source, other, step) {
-        Ok(_) => unreachable(),
-        Err(refusal) => {
-            put_back(campaign, source, fresh);
-            Ok(refusal)
-        }
-    }
+    let refusal = campaign.commence(source, other, step).unwrap_err();
+    put_back(campaign, source, fresh);
+    Ok(refusal)
 }
 
 // Brings a step to another campaign on the same source, and then back: how the other refuses it.
@@ -42,17 +54,8 @@ pub(crate) fn foreign<S: Source>(
     step: i32,
 ) -> Result<Option<CampaignRefusal>, CampaignRefusal> {
     let fresh = campaign.commence(source, inverter, step)?;
-    let mut other = open_campaign(source);
-    match other.collect(source, fresh) {
-        Ok(collected) => {
-            put_back(campaign, source, collected);
-            Ok(None)
-        }
-        Err((fresh, refusal)) => {
-            put_back(campaign, source, fresh);
-            Ok(Some(refusal))
-        }
-    }
+    let answer = open_campaign(source).collect(source, fresh);
+    Ok(put_back_from(campaign, source, answer))
 }
 
 // Collects a step on another source than the one that it was commenced on: how that is refused.
@@ -64,32 +67,16 @@ pub(crate) fn swapped<S: Source>(
     step: i32,
 ) -> Result<Option<CampaignRefusal>, CampaignRefusal> {
     let fresh = campaign.commence(source, inverter, step)?;
-    match campaign.collect(other, fresh) {
-        Ok(collected) => {
-            put_back(campaign, source, collected);
-            Ok(None)
-        }
-        Err((fresh, refusal)) => {
-            put_back(campaign, source, fresh);
-            Ok(Some(refusal))
-        }
-    }
+    let answer = campaign.collect(other, fresh);
+    Ok(put_back_from(campaign, source, answer))
 }
 
-// The crew that takes a step over collects it and withdraws it.
+// The crew that takes a step over collects it and withdraws it: whether it was collected.
 fn take_over<S: Source>(campaign: &mut Campaign, source: &mut S, fresh: FreshStep) -> bool
     requires { (same (S.Source.facts source.old) campaign.old ≡ true) × (is_outstanding campaign.old fresh.inverter fresh.size ≡ true) }
 {
-    match campaign.collect(source, fresh) {
-        Ok(collected) => {
-            put_back(campaign, source, collected);
-            true
-        }
-        Err((fresh, _)) => {
-            put_back(campaign, source, fresh);
-            false
-        }
-    }
+    let answer = campaign.collect(source, fresh);
+    put_back_from(campaign, source, answer).is_none()
 }
 
 // Commences a step, and hands it over: whether it was collected.

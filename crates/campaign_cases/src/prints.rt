@@ -9,9 +9,13 @@ use survey::{fullmap, reducedmap};
 // What every byte of a buffer is before a text is written to it.
 const OLD: u8 = 7;
 
+// How many bytes a buffer has.
+const SIZE: usize = 90;
+
 // Whether the text stands at the front of the buffer, with every byte behind it as it was.
 fn prints(rt: &impl Abort, kind: Kind, file: &[u8], text: &[u8]) {
-    let mut out = [OLD; 90];
+    let mut out = [OLD; SIZE];
+    // A match on the kind, since a closure around the program at each call would be longer.
     let answer = match kind {
         Kind::Complete => fullmap(file, &mut out),
         Kind::Reduced => reducedmap(file, &mut out),
@@ -89,8 +93,8 @@ fn a_file_that_is_too_long(rt: HostRuntime) {
 
 // Whether a buffer of this size is too short for a text that needs so many bytes, and stays as it was.
 fn too_short(rt: &impl Abort, file: &[u8], size: usize, needed: usize) -> Result<(), Fail> {
-    let mut out = [OLD; 90];
-    assert!(rt; size <= 90);
+    let mut out = [OLD; SIZE];
+    assert!(rt; size <= SIZE);
     refused(rt, fullmap(file, &mut out[..size]), Layer::File, 22, needed)?;
     assert!(rt; out.iter().all(|byte| *byte == OLD));
     Ok(())

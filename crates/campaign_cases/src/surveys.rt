@@ -1,4 +1,4 @@
-use crate::given::{MUTE, THREE, refused, three, three_lines};
+use crate::given::{MUTE, THREE, leaves_three, three, three_lines};
 use feeder::{Kind, Map};
 use probing::Source;
 use refusals::Layer;
@@ -16,9 +16,7 @@ fn turned_down(
     number: u8,
     place: usize,
 ) -> Result<(), Fail> {
-    let mut map = three_lines()?;
-    refused(rt, survey_file(file, kind, &mut map), layer, number, place)?;
-    three(rt, &map)
+    leaves_three(rt, |map| survey_file(file, kind, map), layer, number, place)
 }
 
 #[test]
@@ -62,30 +60,33 @@ fn a_feeder_comes_back(rt: HostRuntime) -> Result<(), Fail> {
     Ok(())
 }
 
-#[test]
-fn an_end_without_an_inverter(rt: HostRuntime) -> Result<(), Fail> {
+// Whether a survey of the feeder of three buses with these inverters is refused so, and leaves the source as it was too.
+fn not_surveyed(
+    rt: &impl Abort,
+    inverters: &[usize],
+    layer: Layer,
+    number: u8,
+    place: usize,
+) -> Result<(), Fail> {
+    let lines = three_lines()?;
     let mut source = FeederSource::new();
-    let mut map = three_lines()?;
-    let answer = survey_feeder(&three_lines()?, &[2], &[0, 0, 0], &mut source, &mut map);
-    refused(&rt, answer, Layer::Drawing, 18, 0)?;
-    three(&rt, &map)?;
+    leaves_three(
+        rt,
+        |map| survey_feeder(&lines, inverters, &[0, 0, 0], &mut source, map),
+        layer,
+        number,
+        place,
+    )?;
     assert_eq!(rt; source.buses(), 1);
     Ok(())
 }
 
 #[test]
+fn an_end_without_an_inverter(rt: HostRuntime) -> Result<(), Fail> {
+    not_surveyed(&rt, &[2], Layer::Drawing, 18, 0)
+}
+
+#[test]
 fn a_feeder_that_is_not_made(rt: HostRuntime) -> Result<(), Fail> {
-    let mut source = FeederSource::new();
-    let mut map = three_lines()?;
-    let answer = survey_feeder(
-        &three_lines()?,
-        &[3, 2, 3],
-        &[0, 0, 0],
-        &mut source,
-        &mut map,
-    );
-    refused(&rt, answer, Layer::Source, 21, 2)?;
-    three(&rt, &map)?;
-    assert_eq!(rt; source.buses(), 1);
-    Ok(())
+    not_surveyed(&rt, &[3, 2, 3], Layer::Source, 21, 2)
 }

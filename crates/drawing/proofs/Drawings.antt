@@ -47,9 +47,6 @@ module _ {S : Table} {T : Entries} (A : Natural S T) where
   kind_yielded K F k Y = to_yielded F (ends_of K S F k) Y
 
   -- refusals before the drawing: no inverter, a metered bus without a positive entry, too many branches
-  pub none_without_inverter : (K : Kind) → ((m : ℕ) → Inverter T m → ⊥) → NoFeeder K S
-  none_without_inverter K z F k Y = let t = Exact.no_inverter (kind_yielded K F k Y) in z t.0 t.1
-
   pub none_without_distance : (K : Kind) (n : ℕ) → Meter T n → ((m : ℕ) → Inverter T m → T.entry n m ≤ 0) → NoFeeder K S
   none_without_distance K n h z F k Y = omega (arith, Exact.far_positive (kind_yielded K F k Y) n 0 h z)
 

@@ -5,13 +5,12 @@ use Rattle.feeder.specs.declared.line.Line.{Line}
 use Rattle.feeder.specs.Feeder.{Feeder, OnWay, parent_of, way, distance}
 use Rattle.feeder.proofs.Feeders.{is_way, parent_small}
 use Rattle.feeder.proofs.Inverters.{inverter_below}
-use Rattle.feeder.proofs.Laws.{distance_top, distance_pos, on_le, on_lt, on_by_distance, on_same, response_meet, response_own, response_sym, response_le, whole_response}
+use Rattle.feeder.proofs.Laws.{distance_top, distance_pos, on_le, on_lt, on_by_distance, response_meet, whole_response}
 use Rattle.drawing.specs.Seats as Seats
 use Rattle.drawing.specs.Seats.{Entries, Meter, Inverter, Metering, Listing, Whole}
 use Rattle.drawing.specs.Yielded.{Yielded}
 use Rattle.drawing.proofs.Drafts as Drafts
 use Rattle.drawing.proofs.Drafts.{Up, Strictly, Tree, Faithful, Draft}
-use Rattle.drawing.proofs.Spots as S
 use Rattle.drawing.proofs.Few as Few
 use Rattle.drawing.proofs.Meets.{both}
 
@@ -57,16 +56,6 @@ module _ {T : Entries} {F : List Line} (Y : Yielded T F) where
   pub far_positive : (n d : ℕ) → Meter T n → ((m : ℕ) → Inverter T m → T.entry n m ≤ d) → 0 < d
   far_positive n d h most = let t = row_positive n h in omega (arith, t.2, most t.0 t.1)
 
-  -- an inverter responds to itself with its distance, which no other entry of its row exceeds; mirrored entries are equal
-  pub entry_own : (m : ℕ) → Inverter T m → T.entry m m ≡ distance F m
-  entry_own m i = Y.responses m m i.0 i ∙ response_own F f m
-
-  pub entry_most : (n m : ℕ) → Inverter T n → Inverter T m → T.entry n m ≤ T.entry n n
-  entry_most n m i j = omega (arith, entry_own n i, Y.responses n m i.0 j, response_le F f n m)
-
-  pub entry_mirrored : (n m : ℕ) → Inverter T n → Inverter T m → T.entry n m ≡ T.entry m n
-  entry_mirrored n m i j = Y.responses n m i.0 j ∙ response_sym F f n m ∙ sym (Y.responses m n j.0 i)
-
 -- seats by the comparisons of whole numbers
 abbrev Branch' : Entries → (ℕ → ℕ) → (ℕ → ℕ) → ℕ → ℕ → Type 0
 Branch' T = Drafts.Branch (λ x y. x < y) (λ x y. x ≤ y) 0 T.metered (Inverter T) T.entry
@@ -98,10 +87,3 @@ module _ {T : Entries} {seat far : ℕ → ℕ} where
     -- there are at most 63 unmetered buses besides 64 metered ones
     pub few : T.metered ≤ 64 → last ≤ T.metered + 63
     few l = omega (arith, Few.few (faithful Y) (draft M L), L.metered)
-
-    -- two buses that sit at one spot are one
-    pub spots_apart : (x y c : ℕ) → 0 < x → x ≤ last → 0 < y → y ≤ last → OnWay F c (seat x) → distance F c ≡ far x → OnWay F c (seat y) → distance F c ≡ far y → x ≡ y
-    spots_apart x y c a k b l o e u g = S.apart (faithful Y) (draft M L) x y a k b l (at x a k o e ∙ sym (at y b l u g))
-      where
-        at : (z : ℕ) → 0 < z → z ≤ last → OnWay F c (seat z) → distance F c ≡ far z → S.φ (faithful Y) (draft M L) z ≡ c
-        at z h m v q = let t = S.φ_spot (faithful Y) (draft M L) z h m in on_same F Y.feeder t.on v (sym t.reads ∙ sym q)

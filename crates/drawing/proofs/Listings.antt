@@ -141,20 +141,6 @@ pub record ListedTo (E : Entries) (s t : List Seat) (last : Seat) : Type 0 where
 abbrev extended : List Seat → ℕ → Seat → ℕ → Seat
 extended t count next x = cond (leb x count) (get_or t x start) next
 
-pub listed_none : (E : Entries) (s : List Seat) → MeteredSeats E s → ListedTo E s s (record { inverter = 1; distance = 0 })
-listed_none E s M =
-    let count : E.metered ≡ last_of s = omega (arith, M.places) in
-    record { places = omega (arith, M.places); few = omega (arith, M.places); listed = subst (λ n. Listed E s (λ x. get_or s x start) n (record { inverter = 1; distance = 0 })) count (record { metered = omega arith; some = omega arith; same = λ x l. refl; end = inl refl; branches = λ x p l. absurd (past x p l); order = λ x y p q l. absurd (apart x y p q l); whole = λ m v b. inl (first m v b.inverter.0.0 b.positive) }) }
-  where
-    past : (x : ℕ) → E.metered < x → x ≤ E.metered → ⊥
-    past x p l = omega arith
-
-    apart : (x y : ℕ) → E.metered < x → x < y → y ≤ E.metered → ⊥
-    apart x y p q l = omega arith
-
-    first : (m v : ℕ) → 0 < m → 0 < v → Later (record { inverter = 1; distance = 0 }) m v
-    first m v p q = ⊎_elim (λ e. inr (sym e, q)) (λ n. inl (omega arith)) (cases_eq m 1)
-
 module _ (E : Entries) (s t : List Seat) (last next : Seat) (L : ListedTo E s t last) (N : SeatAfter E s last next) (few : E.metered ≤ 64) where
   pub listed_more_to : length t ≤ E.metered + 63 → ListedTo E s (t ++ next ∷ []) next
   listed_more_to room =

@@ -1,6 +1,6 @@
 -- What a drawing answers, from what its parts found.
 use Rattle.std.specs.Bool.{then_some}
-use Rattle.std.proofs.Common.{◌≡◌, ℕ, ◌<◌, ◌≤◌, Bool, true, false, List, length, None, Option, Decides, sym, refl, ap, ◌∙◌, subst, inl, inr, ⊎_elim, arith, MatchOption}
+use Rattle.std.proofs.Common.{◌≡◌, ℕ, ◌<◌, ◌≤◌, Bool, true, false, List, length, None, Ok, Err, Option, Result, is_ok, Decides, sym, refl, ◌∙◌, subst, inl, inr, ⊎_elim, arith, MatchOption, MatchResult}
 use Rattle.std.proofs.lemmas.Bool.{cases_lt, false≢true}
 use Rattle.std.proofs.lemmas.Int.{ints}
 use Rattle.feeder.specs.declared.line.Line.{Line}
@@ -11,10 +11,10 @@ use Rattle.feeder.specs.declared.map.Map.{Map}
 use Rattle.feeder.specs.Feeder.{Bus}
 use Rattle.feeder.specs.Build.{Refused, FeedersMakeMaps}
 use Rattle.feeder.specs.Table.{Table, Yields, OfKind, NoFeeder}
-use Rattle.feeder.specs.View.{lines_of, metered_of, DrawnMap}
+use Rattle.feeder.specs.View.{lines_of, DrawnMap}
 use Rattle.feeder.proofs.Laws.{inverters_stand_below}
 use Rattle.drawing.specs.declared.seat.Seat.{Seat}
-use Rattle.drawing.specs.Seats.{Entries, Listing, Wiring}
+use Rattle.drawing.specs.Seats.{Entries, Listing}
 use Rattle.drawing.specs.Yielded.{Natural}
 use Rattle.drawing.specs.Columns.{Within}
 use Rattle.drawing.specs.Responses.{Near, Reads, WrongColumns}
@@ -56,11 +56,12 @@ module _ (E : Entries) (s : List Seat) (lines : List Line) (S : Seated E s) (W :
   far_near : (x : ℕ) → Bus G x → far_of s x ≤ 1000000
   far_near x b = ⊎_elim (λ l. let t = S.listing.branches x l (omega (arith, b.1, count)) in omega (arith, t.below, near (seat_of s x) (seat_of s x) t.inverter.0 t.inverter)) (λ l. omega (arith, S.metering.reached x (b.0, l), near x (seat_of s x) (b.0, l) (S.metering.inverter x (b.0, l)))) (cases_lt E.metered x)
 
-  pub lines_make_maps : FeedersMakeMaps → (e : Fault) → Refused E.metered G e → ⊥
+  lines_make_maps : FeedersMakeMaps → (e : Fault) → Refused E.metered G e → ⊥
   lines_make_maps make = make E.metered G (wired_feeder (wired E s lines S W) (omega (arith, count, S.listing.metered)) (λ x b. seated_positive S.metering listing x b.0 b.1)) (omega (arith, count, S.few)) (omega (arith, count, S.listing.metered)) (λ b h. omega (arith, drawn_distance (wired E s lines S W) S.metering listing b h, far_near b h))
 
-  pub map_seated : (m : Map) → metered_of m ≡ E.metered → lines_of m ≡ G → MapSeated E s m
-  map_seated m e f = record { metered = e; count = ap length f ∙ count; wiring = subst (Wiring E (seat_of s) (far_of s)) (sym f) (wired E s lines S W) }
+  pub is_made : FeedersMakeMaps → {metered : ℕ} {ls : List Line} → metered ≡ E.metered → ls ≡ G → (r : Result Map Fault) (P : Map → Type 0) → MatchResult r P (λ e. Refused metered ls e) → is_ok r ≡ true
+  is_made make p q (Ok m) P h = refl
+  is_made make {metered} p q (Err e) P h = absurd (lines_make_maps make e (subst (λ n. Refused n G e) p (subst (λ ls. Refused metered ls e) q h)))
 
 -- what passes the last check is a feeder of the kind that yields the table
 module _ {T : Table} {E : Entries} (A : Natural T E) where

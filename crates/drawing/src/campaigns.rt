@@ -1,19 +1,19 @@
 // Drawings of a campaign.
 ghost use Rattle.std.specs.Prelude.{◌≡◌, ℕ, ◌+◌, ◌<◌, true, not, ◌&&◌, pos, is_some, IfSome, slice_index_or};
 ghost use Rattle.feeder.specs.declared.kind.Kind.TheVariants.{Reduced};
-ghost use Rattle.feeder.specs.Table.{AnswersAreAlone};
+ghost use Rattle.feeder.specs.Table.{AnswersAreAlone, CompleteFeedersAreAlone};
 ghost use Rattle.campaign.specs.Columns.{has_inverter, present, entry};
-ghost use Rattle.campaign.specs.Drawings.{missing, bare, Draws};
+ghost use Rattle.campaign.specs.Drawings.{missing, bare, Draws, DrawingsAreAlone};
 ghost use Rattle.drawing.specs.Copies.{Copy};
 
 use crate::columns::Columns;
 use crate::drawing::draw;
 use campaign::{Campaign, DrawingFault};
-use feeder::{Kind, Map};
+use feeder::{Kind, MOST_METERED, Map};
 use std::array;
 
 // The column of an inverter, with 0 for each response where it was not collected; none where the bus has no inverter.
-fn column_of(campaign: &Campaign, inverter: usize) -> Option<[i64; 64]>
+fn column_of(campaign: &Campaign, inverter: usize) -> Option<[i64; MOST_METERED]>
     ensures has { is_some result ≡ has_inverter campaign.now inverter }
     ensures entries { present campaign.now inverter ≡ true → IfSome result (λ c. (k : ℕ) → k < 64 → slice_index_or c k (pos 0) ≡ entry campaign.now (k + 1) inverter) }
 {
@@ -63,10 +63,14 @@ fn bare_bus(campaign: &Campaign, kind: Kind) -> Option<usize>
 }
 
 // Draws a campaign into a map place, whatever that held; a refused drawing leaves the place as it was. What a drawing of columns
-// may answer has one answer.
+// may answer has one answer, a drawn complete feeder is the only complete one that yields them, and of a campaign from its opening
+// on the drawing has one answer and leaves one map.
+#[tactic(auto, using(feeder::proofs::Alone::answers_are_alone, campaign::proofs::Certain::drawings_are_alone))]
 pub fn draw_campaign(campaign: &Campaign, kind: Kind, place: &mut Map) -> Result<(), DrawingFault>
     ensures draws { Draws campaign.now kind place.old result place.new }
     ensures alone { AnswersAreAlone }
+    ensures complete { CompleteFeedersAreAlone }
+    ensures certain { DrawingsAreAlone }
 {
     if let Some(inverter) = missing_column(campaign) {
         return Err(DrawingFault::ColumnMissing { inverter });
@@ -75,7 +79,7 @@ pub fn draw_campaign(campaign: &Campaign, kind: Kind, place: &mut Map) -> Result
         return Err(DrawingFault::InverterMissing { bus });
     }
     // No campaign that was opened has more buses.
-    if campaign.buses() > 64 {
+    if campaign.buses() > MOST_METERED {
         return Err(DrawingFault::NoFeeder);
     }
     let map = draw(kind, &columns_of(campaign)).ok_or(DrawingFault::NoFeeder)?;

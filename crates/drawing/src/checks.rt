@@ -58,6 +58,7 @@ impl Check<'_> {
     }
 
     // Whether the map has the response of bus n to inverter m.
+    #[tactic(auto, using(crate::proofs::Reading::few))]
     fn same_response(&self, n: usize, m: usize) -> bool
         requires bus { Meter (entries_of self.now.responses.now) n }
         requires inverter { Meter (entries_of self.now.responses.now) m }
@@ -78,10 +79,8 @@ impl Check<'_> {
         requires { 0 < bus }
         ensures { Decides result (BareEnd (entries_of self.now.responses.now) (lines_of self.now.map.now) bus) }
     {
-        match self.map.is_end(bus) {
-            Some(true) => bus > self.responses.buses() || !self.responses.has_inverter(bus),
-            _ => false,
-        }
+        self.map.is_end(bus) == Some(true)
+            && (bus > self.responses.buses() || !self.responses.has_inverter(bus))
     }
 }
 

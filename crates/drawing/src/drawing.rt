@@ -28,8 +28,7 @@ pub fn draw(kind: Kind, columns: &Columns) -> Option<Map>
         responses: &responses,
         map: &map,
     };
-    let passes = check.passes(kind);
-    passes.then_some(map)
+    check.passes(kind).then_some(map)
 }
 
 // The seats of all buses.
@@ -51,8 +50,5 @@ fn wired_map(seating: &Seating) -> Map
     ensures { MapSeated (entries_of seating.now.responses.now) seating.now.seats.now result }
 {
     let lines = seating.wires();
-    match Map::from_lines(seating.responses.buses(), &lines) {
-        Ok(map) => map,
-        Err(_) => unreachable(),
-    }
+    Map::from_lines(seating.responses.buses(), &lines).unwrap()
 }

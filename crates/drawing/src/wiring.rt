@@ -23,6 +23,7 @@ impl Seating<'_> {
         requires { Seated (entries_of self.now.responses.now) self.now.seats.now }
         ensures { Wires (entries_of self.now.responses.now) self.now.seats.now result.items }
     {
+        // A `for`: `collect` takes an allocator, and `extend` answers with an error that can't come here.
         let mut lines = ArrayVec::new();
         for bus in 1..self.seats.len() {
             lines.push(self.line(bus));
@@ -30,7 +31,8 @@ impl Seating<'_> {
         lines
     }
 
-    // The line of a bus.
+    // The line of a bus. Here and below the bounds of a bus stand in clauses: a type for a number that is a place in the seats would
+    // be no plainer.
     fn line(&self, bus: usize) -> Line
         requires seated { Seated (entries_of self.now.responses.now) self.now.seats.now }
         requires some { 0 < bus }
@@ -67,6 +69,7 @@ impl Seating<'_> {
 }
 
 // Whether a seat is above another: nearer, and before their inverters' ways part.
+#[tactic(auto, using(crate::proofs::Reading::few))]
 fn is_above(responses: &Responses, upper: Seat, lower: Seat) -> bool
     requires upper { Inverter (entries_of responses.now) upper.inverter }
     requires lower { Inverter (entries_of responses.now) lower.inverter }

@@ -6,7 +6,7 @@ use Rattle.feeder.specs.declared.line.Line.{Line}
 use Rattle.feeder.specs.declared.kind.Kind.{Kind}
 use Rattle.feeder.specs.declared.kind.Kind.TheVariants.{Complete, Reduced}
 use Rattle.feeder.specs.Feeder.{Feeder, Bus, OnWay, blank, line_of, parent_of, resistance_of, distance}
-use Rattle.feeder.specs.Table.{Table, Inverter, Yields, OfKind, EndsHaveInverters, Pairs, LowestBelow, Drawn, AnswersAreAlone}
+use Rattle.feeder.specs.Table.{Table, Inverter, Yields, OfKind, EndsHaveInverters, Pairs, LowestBelow, Drawn, AnswersAreAlone, CompleteFeedersAreAlone}
 use Rattle.feeder.proofs.Ways.{dec_on}
 use Rattle.feeder.proofs.Inverters.{Greatest, greatest}
 use Rattle.feeder.proofs.Feeders.{is_way}
@@ -122,7 +122,7 @@ module _ (K : Kind) (T : Table) (G F : List Line) (D : Drawn K T G) (E : Drawn K
   drawn_alone = same_list T.metered G F f g same_length P (λ b u. ⊎_elim (λ k. moves_none T.metered (length G) f rising inside b k u.1) (λ k. P.meters b u.0 k) (cases_lt T.metered b))
 
 -- every complete feeder that yields the table is the drawn one
-pub complete_alone : (T : Table) (G F : List Line) → Drawn Complete T G → OfKind Complete T F → Yields T F → G ≡ F
+pub complete_alone : CompleteFeedersAreAlone
 complete_alone T G F drawn kind yields =
     let long : length F ≡ length G = kind.0 ∙ sym drawn.kind.0 in
     let paired = drawn.alone F kind yields long in

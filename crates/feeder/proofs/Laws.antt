@@ -3,11 +3,10 @@ use Rattle.std.proofs.Common.{◌≡◌, ℕ, ◌+◌, ◌<◌, ◌≤◌, ◌�
 use Rattle.feeder.specs.declared.line.Line.{Line}
 use Rattle.feeder.specs.Feeder.{Feeder, OnWay, parent_of, resistance_of, distance, response}
 use Rattle.feeder.specs.Table.{Inverter}
-use Rattle.feeder.specs.Laws.{WaysAreClimbed, WaysHaveNoRepeats, DistancesAddUp, WaysMeet, ResponsesAreSymmetric, ResponsesAreAtMostDistances, ResponsesTellWays, InvertersStandBelow, Pigeonhole, WaysAreShort}
+use Rattle.feeder.specs.Laws.{WaysAreClimbed, WaysHaveNoRepeats, DistancesAddUp, WaysMeet, ResponsesAreSymmetric, ResponsesAreAtMostDistances, ResponsesTellWays, InvertersStandBelow, WaysAreShort}
 use Rattle.feeder.proofs.Ways as W
 use Rattle.feeder.proofs.Distances as D
 use Rattle.feeder.proofs.Feeders.{is_way, positive, some_way, any_short}
-use Rattle.feeder.proofs.Pigeonhole.{at_most, has_all}
 use Rattle.feeder.proofs.Inverters as I
 
 pub ways_are_climbed : WaysAreClimbed
@@ -104,9 +103,6 @@ pub inverters_stand_below : InvertersStandBelow
 inverters_stand_below F f T ends b h =
     let t = I.inverter_below (is_way F f) (length F) (Inverter T) (λ e k l none. ends e ((k, l), λ c u. none c u.0 u.1)) b h.0 h.1 in
     (t.0, (W.on_below t.3, t.1), t.2, t.3)
-
-pub pigeonhole : Pigeonhole
-pigeonhole B xs n h = (at_most B xs n h, λ e. has_all B xs n h (omega arith))
 
 pub ways_are_short : WaysAreShort
 ways_are_short F f b w x = omega (arith, ap length (W.way_unique x (some_way F f b).1), any_short F f b)

@@ -1,5 +1,5 @@
 -- Which buses of a list of lines reach the substation, and at which distance, whether or not the list is a feeder.
-use Rattle.std.proofs.Common.{◌≡◌, ℕ, ◌+◌, ◌-◌, ◌<◌, ◌≤◌, ◌⊎◌, List, [], ◌∷◌, length, get_or, sum_by, sym, refl, ap, ◌∙◌, subst, inl, inr, ⊎_elim, arith}
+use Rattle.std.proofs.Common.{◌≡◌, ℕ, ◌+◌, ◌-◌, ◌<◌, ◌≤◌, List, [], ◌∷◌, length, get_or, sum_by, sym, refl, ap, ◌∙◌, subst, inl, inr, ⊎_elim, arith}
 use Rattle.std.proofs.lemmas.List.{get_or_default}
 use Rattle.std.proofs.lemmas.List.Sums.{sum_by-cons}
 use Rattle.std.proofs.lemmas.Bool.{cases_lt, cases_eq}
@@ -33,9 +33,6 @@ module _ (F : List Line) where
     pub back : (d : ℕ) → Reaches F at d → Reaches F bus (sum + d)
     pub onward : (d : ℕ) → Reaches F bus d → (e : ℕ) × Reaches F at e × (d ≡ sum + e)
 
-  pub passed_none : (bus : ℕ) → bus ≤ length F → Passed bus bus 0
-  passed_none bus l = record { near = omega arith; small = l; back = λ d x. let e : d ≡ 0 + d = omega arith in subst (Reaches F bus) e x; onward = λ d x. (d, x, omega arith) }
-
   pub passed_all : (bus at sum : ℕ) → Passed bus at sum → at ≡ 0 → Reaches F bus sum
   passed_all bus at sum k z = let e : sum + 0 ≡ sum = omega arith in subst (Reaches F bus) e (k.back 0 (subst (λ t. Reaches F t 0) (sym z) reaches_top))
 
@@ -53,9 +50,6 @@ module _ (F : List Line) where
       read : get_or F (at - 1) l ≡ line_of F at
       read = read_line at there l
 
-      pub passed_resistance : 1 ≤ (get_or F (at - 1) l).resistance
-      passed_resistance = omega (arith, ap (λ t. t.resistance) read, sound_resistance at there)
-
       pub passed_more : (get_or F (at - 1) l).resistance ≤ 1000000 - sum → Passed bus (get_or F (at - 1) l).parent (sum + (get_or F (at - 1) l).resistance)
       passed_more fits = rw read (record { near = omega (arith, k.near, ap (λ t. t.resistance) read); small = sound_parent at there; back = back; onward = onward })
         where
@@ -71,9 +65,3 @@ module _ (F : List Line) where
   -- the line at place i is that of bus i + 1
   pub line_next : (i : ℕ) → i < length F → (d : Line) → get_or F i d ≡ line_of F (i + 1)
   line_next i h d = let e : i ≡ (i + 1) - 1 = omega arith in ap (λ t. get_or F t d) e ∙ read_line (i + 1) (omega arith, omega arith) d
-
-  pub flawed_at : (i : ℕ) → i < length F → (d : Line) → (length F < (get_or F i d).parent) ⊎ ((get_or F i d).resistance ≡ 0) → IsFlawed F (i + 1)
-  flawed_at i h d s = rw (line_next i h d) at s
-
-  pub not_flawed_at : (i : ℕ) → i < length F → (d : Line) → (get_or F i d).parent ≤ length F → ((get_or F i d).resistance ≡ 0 → ⊥) → IsFlawed F (i + 1) → ⊥
-  not_flawed_at i h d l z s = let e = line_next i h d in ⊎_elim (λ k. omega (arith, ap (λ t. t.parent) e)) (λ k. z (ap (λ t. t.resistance) e ∙ k)) s

@@ -12,9 +12,6 @@ pub record TabledTo (F : List Line) (to : ℕ) (distances : List ℕ) : Type 0 w
   pub reach : (b : ℕ) → b < to → Reaches F b (get_or distances b 0)
   pub near : (b : ℕ) → b < to → get_or distances b 0 ≤ 1000000
 
-pub tabled_none : (F : List Line) → TabledTo F 0 []
-tabled_none F = record { places = omega arith; reach = λ b l. absurd (omega arith); near = λ b l. absurd (omega arith) }
-
 pub tabled_more : (F : List Line) (to d : ℕ) (ds : List ℕ) → TabledTo F to ds → (d ≤ 1000000) × Reaches F to d → TabledTo F (to + 1) (ds ++ d ∷ [])
 tabled_more F to d ds k (n, x) = record { places = omega (arith, length_push ds d, k.places); reach = grown (Reaches F) x k.reach; near = grown (λ b t. t ≤ 1000000) n k.near }
   where

@@ -78,3 +78,7 @@ Answers K T (Some G) = Drawn K T G
 -- a table has one answer of a kind
 abbrev pub AnswersAreAlone : Type 0
 AnswersAreAlone = (K : Kind) (T : Table) (a b : Option (List Line)) → Answers K T a → Answers K T b → a ≡ b
+
+-- a drawn complete feeder is the only complete one that yields the table
+abbrev pub CompleteFeedersAreAlone : Type 0
+CompleteFeedersAreAlone = (T : Table) (G F : List Line) → Drawn Complete T G → OfKind Complete T F → Yields T F → G ≡ F

@@ -10,4 +10,4 @@ mod map;
 pub use fault::Fault;
 pub use kind::Kind;
 pub use line::Line;
-pub use map::{MOST_BUSES, Map};
+pub use map::{MOST_BUSES, MOST_METERED, Map, PLACES};

@@ -10,7 +10,7 @@ pub struct Line {
     pub resistance: u32,
 }
 
-/// The blank line, which stands where there is no bus: the least resistance to the substation.
+/// The blank line, as which a number that is no bus is read: the least resistance to the substation.
 impl Default for Line {
     ghost is_default = { λ line. line ≡ blank };
 

@@ -14,8 +14,12 @@ mod response;
 /// The most buses that a map has, the substation not counted.
 pub const MOST_BUSES: usize = 127;
 
-// A distance for the substation, and one for each bus.
-const PLACES: usize = MOST_BUSES + 1;
+/// The most buses that are metered where a feeder is probed. What is kept of each has a fixed place: these crates take no memory
+/// beyond their own.
+pub const MOST_METERED: usize = 64;
+
+/// The most places of a list that has one for the substation and one for each bus.
+pub const PLACES: usize = MOST_BUSES + 1;
 
 // Bus b has its line at place b - 1 and its distance at place b.
 // `Map::lines` lends the lines alone as one slice, so no distance stands beside its line.

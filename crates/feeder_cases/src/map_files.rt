@@ -3,6 +3,7 @@
 use crate::line::line;
 use arrayvec::ArrayString;
 use feeder::{Fault, Line, Map};
+use files::FileFault;
 use maps::read_map;
 use printing::write_map;
 use refusals::{Layer, Refusal};
@@ -16,26 +17,30 @@ fn single(resistance: u32) -> Result<Map, Fault> {
     Map::from_lines(0, &[line(0, resistance)])
 }
 
-// Whether a file's refusal has this number and this place.
-fn told(rt: &impl Abort, refusal: Refusal, number: u8, place: usize) {
-    let layer = Layer::File;
+// Whether a call is refused with this number at this place.
+// The other crates of cases compare refusals alike: one helper for all would need a crate of its own.
+fn told<T: Drop>(
+    rt: &impl Abort,
+    answer: Result<T, FileFault>,
+    number: u8,
+    place: usize,
+) -> Result<(), Fail> {
+    let fault = answer.err().ok_or("accepted")?;
     assert_eq!(rt;
-        refusal,
+        Refusal::from(fault),
         Refusal {
             number,
-            layer,
+            layer: Layer::File,
             place
         }
     );
+    Ok(())
 }
 
 // Whether reading refuses with this number at this place, and leaves the place as it was.
 fn refused(rt: &impl Abort, file: &[u8], number: u8, place: usize) -> Result<(), Fail> {
     let mut map = single(7)?;
-    let Err(fault) = read_map(file, &mut map) else {
-        return Err(Fail::new("accepted"));
-    };
-    told(rt, Refusal::from(fault), number, place);
+    told(rt, read_map(file, &mut map), number, place)?;
     untouched(rt, &map);
     Ok(())
 }
@@ -78,9 +83,7 @@ fn untouched_bytes(rt: &impl Abort, bytes: &[u8]) {
 fn writes(rt: &impl Abort, map: &Map, text: &[u8]) -> Result<(), Fail> {
     let mut out = [b'x'; 100];
     let n = write_map(map, &mut out)?;
-    let Some((front, rest)) = out.split_at_checked(n) else {
-        return Err(Fail::new("longer than the buffer"));
-    };
+    let (front, rest) = out.split_at_checked(n).ok_or("longer than the buffer")?;
     assert_eq!(rt; front, text);
     untouched_bytes(rt, rest);
     Ok(())
@@ -112,10 +115,7 @@ fn texts_of_one_bus(rt: HostRuntime) -> Result<(), Fail> {
 #[test]
 fn a_buffer_that_is_too_short(rt: HostRuntime) -> Result<(), Fail> {
     let mut out = [b'x'; 27];
-    let Err(fault) = write_map(&single(300)?, &mut out) else {
-        return Err(Fail::new("accepted"));
-    };
-    told(&rt, Refusal::from(fault), 22, 28);
+    told(&rt, write_map(&single(300)?, &mut out), 22, 28)?;
     untouched_bytes(&rt, &out);
     Ok(())
 }

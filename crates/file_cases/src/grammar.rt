@@ -19,14 +19,10 @@ fn quoted(bytes: &[u8], at: usize) -> Field<'_> {
 
 // Whether a record has these fields and no more.
 fn has(rt: &impl Abort, record: Record<'_>, fields: &[Field<'_>]) {
-    let mut rest = record.iter();
-    for field in fields {
-        assert_eq!(rt; rest.next(), Some(*field));
-    }
-    assert!(rt; rest.next().is_none());
+    assert!(rt; record.iter().eq(fields.iter().copied()));
 }
 
-// Whether the next record has three plain fields of three bytes each.
+// Whether the next record has three plain fields of three bytes each. Its place is a u8, since the type keeps the sums in range.
 fn three(
     rt: &impl Abort,
     reader: &mut Reader<'_>,

@@ -5,17 +5,15 @@ use std::process::Abort;
 use std::test::Fail;
 
 // Whether reading refuses with this number at this place, and leaves the table as it was.
+// The other crates of cases compare refusals alike: one helper for all would need a crate of its own.
 fn refused(rt: &impl Abort, file: &[u8], number: u8, place: usize) -> Result<(), Fail> {
     let mut table = Table::new();
-    let Err(fault) = table.read(file) else {
-        return Err(Fail::new("accepted"));
-    };
-    let layer = Layer::File;
+    let fault = table.read(file).err().ok_or("accepted")?;
     assert_eq!(rt;
         Refusal::from(fault),
         Refusal {
             number,
-            layer,
+            layer: Layer::File,
             place
         }
     );

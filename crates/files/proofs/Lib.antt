@@ -1,5 +1,6 @@
 pub mod Clash
 pub mod Texts
+pub mod Names
 pub mod Changes
 pub mod Added
 pub mod Bounds

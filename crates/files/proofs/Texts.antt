@@ -6,8 +6,8 @@ use Rattle.std.proofs.lemmas.Slice.Eq.{bytes_eq-Decides}
 use Rattle.std.proofs.lemmas.Bool.{and_right, and_parts, and_from, both_ways, cases_Bool, cond_both}
 use Rattle.rfc4180.specs.Places.{Content, plainly, quotedly, nothing, held}
 use Rattle.rfc4180.specs.Views.{quoteless, text_of}
-use Rattle.units.specs.Decimals.{digit, digits, Decimal, Form, pointed, written, bus_of, decimal_of}
-use Rattle.units.proofs.Forms.{number_form, value_reads}
+use Rattle.units.specs.Decimals.{digit, digits, Decimal, Form, pointed, written, decimal_of}
+use Rattle.units.proofs.Forms.{value_reads}
 use Rattle.files.proofs.Clash.{clash}
 use Rattle.files.specs.Columns.{bus_name, column_name}
 
@@ -100,13 +100,6 @@ written_some places d form =
 odd_never : (xs : List ℕ) → Odd xs → 1 ≤ length xs → quoteless xs ≡ true → ⊥
 odd_never xs (inl e) l q = omega (arith, ap length e)
 odd_never xs (inr f) l q = both_ways _ f q
-
-pub odd_bus : (xs : List ℕ) → Odd xs → bus_of xs ≡ None
-odd_bus xs odd = go (bus_of xs) refl
-  where
-    go : (r : Option ℕ) → bus_of xs ≡ r → r ≡ None
-    go None e = refl
-    go (Some n) e = let form = number_form 4 xs n e in absurd (odd_never xs odd form.some (digits_quoteless xs form.digital))
 
 pub odd_decimal : (places : ℕ) (xs : List ℕ) → Odd xs → decimal_of places xs ≡ None
 odd_decimal places xs odd = go (decimal_of places xs) refl

@@ -5,7 +5,9 @@ ghost use Rattle.rfc4180.specs.Places.{Content};
 ghost use Rattle.rfc4180.specs.Views.{piece, pieces};
 ghost use Rattle.files.specs.Columns.{bus_name, column_name, right_column, columns_of, header_of};
 
-use crate::{FileFault, MOST_BUSES};
+use crate::FileFault;
+use feeder::MOST_METERED;
+use itoa::Buffer;
 use rfc4180::{Field, Record};
 
 // Which columns the files of a kind have.
@@ -29,15 +31,14 @@ pub fn read_columns<C: Columns>(header: Record<'_>) -> Result<usize, FileFault>
     Ok(header.fields())
 }
 
-// The columns of a response file: the first two have these names, and those of the buses follow.
+// The columns of a response file: the first have names of their own, and those of the buses follow.
 struct ResponseColumns;
 
-const PROBE: &[u8] = b"probe";
-
-const STEP: &[u8] = b"step";
+// The names of the first columns.
+pub(crate) const FIRST_COLUMNS: [&[u8]; 2] = [b"probe", b"step"];
 
 // The most columns.
-const MOST_COLUMNS: usize = MOST_BUSES + 2;
+const MOST_COLUMNS: usize = FIRST_COLUMNS.len() + MOST_METERED;
 
 impl Columns for ResponseColumns {
     ghost right = { right_column };
@@ -51,11 +52,9 @@ impl Columns for ResponseColumns {
 fn is_column_name(text: &[u8], k: usize) -> bool
     ensures { result ≡ nat_lt k 66 && bytes_eq text.now (column_name k) }
 {
-    match k {
-        0 => text == PROBE,
-        1 => text == STEP,
-        2..MOST_COLUMNS => is_bus_name(text, k - 1),
-        _ => false,
+    match FIRST_COLUMNS.get(k) {
+        Some(name) => text == *name,
+        None => k < MOST_COLUMNS && is_bus_name(text, k - 1),
     }
 }
 
@@ -64,14 +63,7 @@ fn is_bus_name(text: &[u8], bus: usize) -> bool
     requires { bus < 100 }
     ensures { result ≡ bytes_eq text.now (bus_name bus) }
 {
-    // both digits are below 10, so u8::try_from is no plainer: its error can't be
-    let tens = b'0' + (bus / 10) as u8;
-    let ones = b'0' + (bus % 10) as u8;
-    if bus < 10 {
-        text == [ones].as_slice()
-    } else {
-        text == [tens, ones].as_slice()
-    }
+    text == Buffer::new().format(bus).as_bytes()
 }
 
 // The number of buses that a header names.
@@ -80,8 +72,8 @@ pub(crate) fn read_header(header: Record<'_>) -> Result<usize, FileFault>
     ensures buses { IfOk result (λ n. (1 ≤ n) × (n ≤ 64)) }
 {
     let columns = read_columns::<ResponseColumns>(header)?;
-    if columns < 3 {
+    if columns <= FIRST_COLUMNS.len() {
         return Err(FileFault::Header { at: header.end() });
     }
-    Ok(columns - 2)
+    Ok(columns - FIRST_COLUMNS.len())
 }

@@ -3,7 +3,7 @@ ghost use Rattle.files.specs.Faults.{refusal_of};
 ghost use Rattle.files.specs.declared.fault.FileFault.TheVariants.{Bytes};
 
 use refusals::{Layer, Refusal};
-use rfc4180::Fault;
+use rfc4180::{Fault, MOST_BYTES};
 
 // Why a file is turned down. `at` is a byte's place from 0.
 #[derive(Clone, Copy, PartialEq, Eq, Debug)]
@@ -49,7 +49,7 @@ impl From<FileFault> for Refusal {
             } => (1, at),
             FileFault::Bytes {
                 fault: Fault::TooLong,
-            } => (2, 65_536),
+            } => (2, MOST_BYTES),
             FileFault::Header { at } => (3, at),
             FileFault::FieldCount { at } => (4, at),
             FileFault::Form { at } => (5, at),

@@ -12,4 +12,4 @@ mod table;
 pub use columns::{Columns, read_columns};
 pub use fault::FileFault;
 pub use numbers::{bus_field, decimal_field};
-pub use table::{MOST_BUSES, Probe, Table};
+pub use table::{Probe, Table};

@@ -2,9 +2,10 @@ ghost use Rattle.std.specs.Prelude.{◌≡◌, ◌≤◌, length, MatchResult, O
 ghost use Rattle.rfc4180.specs.Views.{left, pieces, remaining};
 ghost use Rattle.files.specs.Rows.{changes_from, unprobed, row_of, empty_table, table_of};
 
-use crate::columns::read_header;
+use crate::columns::{FIRST_COLUMNS, read_header};
 use crate::numbers::{read_change, read_inverter, read_step};
-use crate::{FileFault, MOST_BUSES, Probe, Table};
+use crate::{FileFault, Probe, Table};
+use feeder::MOST_METERED;
 use rfc4180::{Fields, Reader, Record};
 
 // A table of so many buses with no inverter and no mute meter.
@@ -13,8 +14,8 @@ pub(crate) fn empty_table(buses: usize) -> Table
 {
     Table {
         buses,
-        mute: [false; MOST_BUSES],
-        probes: [None; MOST_BUSES],
+        mute: [false; MOST_METERED],
+        probes: [None; MOST_METERED],
     }
 }
 
@@ -22,12 +23,12 @@ pub(crate) fn empty_table(buses: usize) -> Table
 fn read_changes(
     fields: Fields<'_>,
     step: i64,
-    mute: &mut [bool; MOST_BUSES],
-) -> Result<[i64; MOST_BUSES], FileFault>
+    mute: &mut [bool; MOST_METERED],
+) -> Result<[i64; MOST_METERED], FileFault>
     requires { length (remaining fields) ≤ 64 }
     ensures { MatchResult result (λ responses. changes_from step 0 (unprobed mute.old) (remaining fields.entry) ≡ Ok (record { responses = responses; mute = mute.new })) (λ e. changes_from step 0 (unprobed mute.old) (remaining fields.entry) ≡ Err e) }
 {
-    let mut responses = [0; MOST_BUSES];
+    let mut responses = [0; MOST_METERED];
     for (n, field) in fields.enumerate() {
         match read_change(field, step)? {
             Some(response) => responses[n] = response,
@@ -44,14 +45,12 @@ fn read_row(row: Record<'_>, table: &mut Table) -> Result<(), FileFault>
     ensures buses { table.new.buses ≡ table.old.buses }
 {
     let miscounted = FileFault::FieldCount { at: row.start() };
-    if row.fields() != table.buses + 2 {
+    if row.fields() != FIRST_COLUMNS.len() + table.buses {
         return Err(miscounted);
     }
     let mut fields = row.iter();
-    let first = fields.next().ok_or(miscounted)?;
-    let second = fields.next().ok_or(miscounted)?;
-    let inverter = read_inverter(first, table)?;
-    let step = read_step(second)?;
+    let inverter = read_inverter(fields.next().ok_or(miscounted)?, table)?;
+    let step = read_step(fields.next().ok_or(miscounted)?)?;
     let responses = read_changes(fields, step, &mut table.mute)?;
     table.probes[inverter - 1] = Some(Probe { step, responses });
     Ok(())

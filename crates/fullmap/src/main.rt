@@ -3,6 +3,7 @@
 
 #![tactic(auto)]
 
+use printing::MOST_MAP_BYTES;
 use std::io;
 use std::io::{Read, Write};
 use survey::fullmap;
@@ -10,7 +11,7 @@ use survey::fullmap;
 fn main(rt: HostRuntime) -> io::Result<()> {
     let mut file = Vec::new(rt.alloc());
     rt.stdin().read_to_end(&mut file)?;
-    let mut text = [0; 2_300];
+    let mut text = [0; MOST_MAP_BYTES];
     let length = fullmap(file.as_slice(), &mut text).unwrap();
     rt.stdout().write_all(&text[..length])
 }

@@ -3,7 +3,8 @@ ghost use Rattle.std.specs.Prelude.{◌≡◌, ◌≤◌, OnOk};
 ghost use Rattle.rfc4180.specs.Views.{piece};
 ghost use Rattle.maps.specs.Lines.{next_of, upper_of, resistance_in};
 
-use files::{FileFault, MOST_BUSES, bus_field, decimal_field};
+use feeder::MOST_METERED;
+use files::{FileFault, bus_field, decimal_field};
 use rfc4180::Field;
 use units::Scale;
 
@@ -17,7 +18,7 @@ pub(crate) fn read_next(field: Field<'_>, next: usize) -> Result<(), FileFault>
 {
     let at = field.start();
     let bus = bus_field(field).ok_or(FileFault::Form { at })?;
-    if bus != next || bus > MOST_BUSES {
+    if bus != next || bus > MOST_METERED {
         return Err(FileFault::MapEntry { at });
     }
     Ok(())

@@ -7,8 +7,9 @@ ghost use Rattle.maps.specs.Reading.{items_in};
 use crate::columns::read_map_header;
 use crate::entries::{read_next, read_parent, read_resistance};
 use arrayvec::ArrayVec;
-use feeder::Line;
-use files::{FileFault, MOST_BUSES};
+use feeder::{Line, MOST_METERED};
+use files::FileFault;
+use printing::MAP_COLUMNS;
 use rfc4180::{Reader, Record};
 
 // The line of a record: first the field count, then the fields from the left.
@@ -17,7 +18,7 @@ fn read_line(row: Record<'_>, buses: usize, next: usize) -> Result<Line, FileFau
     ensures few { OnOk result (next ≤ 64) }
 {
     let miscounted = FileFault::FieldCount { at: row.start() };
-    if row.fields() != 3 {
+    if row.fields() != MAP_COLUMNS.len() {
         return Err(miscounted);
     }
     let mut fields = row.iter();
@@ -28,7 +29,7 @@ fn read_line(row: Record<'_>, buses: usize, next: usize) -> Result<Line, FileFau
 }
 
 // The lines of the records that are still to be read.
-fn read_lines(reader: Reader<'_>, buses: usize) -> Result<ArrayVec<Line, MOST_BUSES>, FileFault>
+fn read_lines(reader: Reader<'_>, buses: usize) -> Result<ArrayVec<Line, MOST_METERED>, FileFault>
     ensures { items_in result ≡ lines_in buses [] (left reader.entry) }
 {
     let mut lines = ArrayVec::new();
@@ -43,7 +44,7 @@ pub(crate) fn read_map_lines(
     mut reader: Reader<'_>,
     records: usize,
     bytes: usize,
-) -> Result<ArrayVec<Line, MOST_BUSES>, FileFault>
+) -> Result<ArrayVec<Line, MOST_METERED>, FileFault>
     requires { records ≡ length (left reader) }
     ensures { items_in result ≡ map_lines bytes (left reader.entry) }
 {

@@ -43,8 +43,9 @@ pub fn read_map(file: &[u8], place: &mut Map) -> Result<(), FileFault>
     ensures stands { OnOk result (Feeder (lines_of place.new) × Stands place.new) }
     ensures back { WrittenMapsAreRead }
 {
-    let records = Reader::open(file)?.count();
     let reader = Reader::open(file)?;
+    // `count` counts a copy of the reader.
+    let records = reader.count();
     let lines = read_map_lines(reader, records, file.len())?;
     *place = draw_lines(&lines)?;
     Ok(())

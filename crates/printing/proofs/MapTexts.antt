@@ -1,6 +1,6 @@
 -- The text of a map, put together part by part, and how long it is.
-use Rattle.std.proofs.Common.{◌≡◌, ℕ, ◌+◌, ◌-◌, ◌*◌, ◌<◌, ◌≤◌, ltb, List, [], ◌∷◌, ◌++◌, length, get_or, drop, sym, refl, ap, ◌∙◌, arith}
-use Rattle.std.proofs.lemmas.List.{append_assoc, append-nil, length-append, drop_more, drop_all}
+use Rattle.std.proofs.Common.{◌≡◌, ℕ, ◌+◌, ◌-◌, ◌*◌, ◌<◌, ◌≤◌, ltb, List, [], ◌∷◌, ◌++◌, length, get_or, refl, arith}
+use Rattle.std.proofs.lemmas.List.{length-append}
 use Rattle.std.proofs.lemmas.Bool.{cond_both}
 use Rattle.feeder.specs.declared.line.Line.{Line}
 use Rattle.feeder.specs.declared.map.Map.{Map}
@@ -10,14 +10,6 @@ use Rattle.feeder.proofs.Maps.{parents, map_stands}
 use Rattle.printing.specs.Texts.{new_line}
 use Rattle.printing.specs.MapTexts.{short_number, per_unit, line_text, lines_text, map_text, MapsAreShort, NumbersAreTold}
 use Rattle.printing.proofs.Digits.{short_back, per_unit_back}
-
-pub lines_put : (front : List ℕ) (b i : ℕ) (lines : List Line) (d : Line) → i < length lines → (front ++ line_text b (get_or lines i d)) ++ lines_text (b + 1) (drop (i + 1) lines) ≡ front ++ lines_text b (drop i lines)
-lines_put front b i lines d h =
-    append_assoc front (line_text b (get_or lines i d)) (lines_text (b + 1) (drop (i + 1) lines))
-    ∙ ap (λ t. front ++ lines_text b t) (sym (drop_more lines i d h))
-
-pub lines_put_all : (front : List ℕ) (b i : ℕ) (lines : List Line) → length lines ≤ i → front ++ lines_text b (drop i lines) ≡ front
-lines_put_all front b i lines h = ap (λ t. front ++ lines_text b t) (drop_all i lines h) ∙ append-nil front
 
 short_length : (n : ℕ) → length (short_number n) ≤ 3
 short_length n =

@@ -6,5 +6,5 @@ mod map_text;
 mod refusal_text;
 mod texts;
 
-pub use map_text::{MAP_HEADER, write_map};
+pub use map_text::{MAP_COLUMNS, MOST_MAP_BYTES, write_map};
 pub use refusal_text::write_refusal;

@@ -1,22 +1,39 @@
 // The text of a map.
-ghost use Rattle.std.specs.Prelude.{◌≡◌, ◌+◌, ◌<◌, ◌≤◌, ◌++◌};
+ghost use Rattle.std.specs.Prelude.{◌≡◌, ◌+◌, ◌<◌, ◌≤◌, ◌++◌, codes};
 ghost use Rattle.arrayvec.specs.ArrayVec.{array_vec_len};
 ghost use Rattle.feeder.specs.View.{lines_of};
 ghost use Rattle.printing.specs.MapTexts.{per_unit, line_text, map_text, MapsAreShort, NumbersAreTold};
-ghost use Rattle.printing.specs.Texts.{Writing};
+ghost use Rattle.printing.specs.Texts.{Writing, new_line};
 
 use crate::texts::{COMMA, NEW_LINE, Text};
 use feeder::{Line, Map};
 use files::FileFault;
 
-/// The header of every map file.
-pub const MAP_HEADER: &[u8] = b"bus,parent,r";
+/// The names of a map file's columns.
+pub const MAP_COLUMNS: [&[u8]; 3] = [b"bus", b"parent", b"r"];
 
-// Enough for the text of any map: 14 bytes of header, and at most 18 for each of 127 buses.
-type MapText = Text<2_300>;
+/// Enough for the text of any map: 14 bytes of header, and at most 18 for each of 127 buses.
+pub const MOST_MAP_BYTES: usize = 2_300;
+
+type MapText = Text<MOST_MAP_BYTES>;
 
 // What each of the six digits behind a point counts, where the digit before it counts 1,000,000.
 const PARTS: [u32; 6] = [100_000, 10_000, 1_000, 100, 10, 1];
+
+// Appends the header.
+fn push_header(text: &mut MapText)
+    requires { array_vec_len text.old.bytes + 14 ≤ 2300 }
+    ensures bytes { text.new.bytes.items ≡ text.old.bytes.items ++ (codes "bus,parent,r" ++ new_line) }
+    ensures len { array_vec_len text.new.bytes ≡ array_vec_len text.old.bytes + 14 }
+{
+    let [bus, parent, resistance] = MAP_COLUMNS;
+    text.push(bus);
+    text.push(COMMA);
+    text.push(parent);
+    text.push(COMMA);
+    text.push(resistance);
+    text.push(NEW_LINE);
+}
 
 // Appends a resistance in per unit.
 fn push_per_unit(text: &mut MapText, resistance: u32)
@@ -24,6 +41,8 @@ fn push_per_unit(text: &mut MapText, resistance: u32)
     ensures bytes { text.new.bytes.items ≡ text.old.bytes.items ++ per_unit resistance }
     ensures len { array_vec_len text.new.bytes ≡ array_vec_len text.old.bytes + 8 }
 {
+    // Digit by digit: `itoa` writes no zeros in front, and `write!` answers with an error that each part would hand on though it can't
+    // come here.
     text.push_number(resistance / 1_000_000 % 10);
     text.push(b".");
     for unit in PARTS {
@@ -52,8 +71,7 @@ fn map_text(map: &Map) -> MapText
 {
     let lines = map.lines();
     let mut text = Text::new();
-    text.push(MAP_HEADER);
-    text.push(NEW_LINE);
+    push_header(&mut text);
     for (i, line) in lines.iter().enumerate() {
         push_line(&mut text, i + 1, *line);
     }

@@ -12,7 +12,7 @@ pub(crate) const NEW_LINE: &[u8] = b"\r\n";
 
 pub(crate) const COMMA: &[u8] = b",";
 
-// A text of at most `N` bytes.
+// A text of at most `N` bytes. They are put in and written out as bytes, so `ArrayString` would be no plainer.
 #[derive(Drop)]
 pub(crate) struct Text<const N: usize> {
     bytes: ArrayVec<u8, N>,

@@ -1,3 +1,4 @@
 pub mod Readings
 pub mod Voltages
 pub mod Probes
+pub mod Arrays

@@ -8,7 +8,7 @@ use Rattle.probing.specs.declared.fault.SourceFault.TheVariants.{NoInverter, Bad
 use Rattle.probing.specs.Facts.{Facts, Bounded, Voltages, voltage, with_setting}
 use Rattle.probing.specs.Answers.{left, and_then, per_bus, admissible, on_schedule, read_all_of, command_of, commanded, withdraw_of, withdrawn, probe_of}
 use Rattle.probing.proofs.Readings.{per_bus_length, per_bus_metered, per_bus_outside, read_heard}
-use Rattle.probing.proofs.Voltages.{scheduled, setting_back, voltage_moved, voltage_bounded}
+use Rattle.probing.proofs.Voltages.{scheduled, voltage_moved, voltage_bounded}
 
 pub accepted : {E : Type 0} (u : Unit {0}) (r : Result (Unit {0}) E) → Ok u ≡ r → Ok tt ≡ r
 accepted u r h = h
@@ -33,20 +33,11 @@ command_accepted f m step h =
 pub command_leaves : (f : Facts) (m : ℕ) (step : ℤ) → Ok tt ≡ command_of f m step → commanded f m step ≡ with_setting f m step
 command_leaves f m step h = ap (λ r. left r (with_setting f m step) f) (sym h)
 
-pub command_refused : (f : Facts) (m : ℕ) (step : ℤ) (e : SourceFault) → Err e ≡ command_of f m step → commanded f m step ≡ f
-command_refused f m step e h = ap (λ r. left r (with_setting f m step) f) (sym h)
-
 pub withdraw_accepted : (f : Facts) (m : ℕ) → f.inverter m ≡ true → (Ok tt ≡ withdraw_of f m) × (withdrawn f m ≡ with_setting f m (pos 0))
 withdraw_accepted f m there = (
   ap (λ t. cond (not t) (Err (NoInverter m)) (Ok tt)) (sym there),
   ap (λ t. left {T = Unit {0}} {E = SourceFault} (cond (not t) (Err (NoInverter m)) (Ok tt)) (with_setting f m (pos 0)) f) there,
 )
-
--- withdrawing what was commanded
-pub command_withdrawn : (f : Facts) (m : ℕ) (step : ℤ) → Ok tt ≡ command_of f m step → withdrawn (with_setting f m step) m ≡ f
-command_withdrawn f m step h =
-    let ok = command_accepted f m step h in
-    (withdraw_accepted (with_setting f m step) m ok.there).1 ∙ setting_back f m step ok.still
 
 -- readings are voltages, 0 behind the last bus
 pub readings_bounded : (f : Facts) → Bounded f → (xs : List ℤ) → Ok xs ≡ read_all_of f → Voltages xs

@@ -1,5 +1,5 @@
 -- Reading every meter in bus order fills the list of readings, or finds the lowest mute bus.
-use Rattle.std.proofs.Common.{◌≡◌, ℕ, zero, suc, ◌+◌, ◌-◌, ◌<◌, ◌≤◌, Bool, true, false, cond, not, ◌&&◌, leb, List, ◌++◌, length, get_or, set, drop, replicate, ℤ, pos, Some, None, Ok, Err, Option, Result, sym, refl, ap, ◌∙◌, inl, inr, add-one, arith, length-set, get_or-set_other, get_or-set_same}
+use Rattle.std.proofs.Common.{◌≡◌, ℕ, zero, suc, ◌+◌, ◌-◌, ◌<◌, ◌≤◌, Bool, true, false, cond, not, ◌&&◌, leb, List, ◌++◌, length, get_or, drop, replicate, ℤ, pos, Some, None, Ok, Err, Option, Result, sym, refl, ap, ◌∙◌, inl, inr, add-one, arith}
 use Rattle.std.proofs.lemmas.List.FromFn.{length-map-range_with_len, get_or-map-range_with_len}
 use Rattle.std.proofs.lemmas.List.{same_lists, get_or_default, length-replicate, length-append, length-drop, get_or-replicate, get_or-drop, get_or_append_left, get_or-append_right}
 use Rattle.std.proofs.lemmas.Bool.{cases_lt, cases_eq, cond-true, cond-false, le-leb, lt-leb, not-true, not-false, and_parts, and_cases, and_from, both_ways}
@@ -13,21 +13,6 @@ pub record Filled (g : ℕ → ℤ) (i : ℕ) (xs : List ℤ) : Type 0 where
   pub long : length xs ≡ 64
   pub told : (k : ℕ) → k < i → get_or xs k (pos 0) ≡ g (k + 1)
   pub rest : (k : ℕ) → i ≤ k → k < 64 → get_or xs k (pos 0) ≡ pos 0
-
-set_here : (g : ℕ → ℤ) (i : ℕ) (xs : List ℤ) (v : ℤ) → i < length xs → v ≡ g (i + 1) → (k : ℕ) → k ≡ i → get_or (set xs i v) k (pos 0) ≡ g (k + 1)
-set_here g i xs v lt e k same = ap (λ j. get_or (set xs i v) j (pos 0)) same ∙ get_or-set_same xs i v (pos 0) lt ∙ e ∙ ap (λ j. g (j + 1)) (sym same)
-
-pub filled_more : (g : ℕ → ℤ) (i : ℕ) (xs : List ℤ) (v : ℤ) → i < 64 → v ≡ g (i + 1) → Filled g i xs → Filled g (i + 1) (set xs i v)
-filled_more g i xs v lt e h =
-    record {
-      long = length-set xs i v ∙ h.long;
-      told = λ k below. elim (cases_eq k i) [ inl same ↦ set_here g i xs v (omega (arith, h.long)) e k same | inr other ↦ get_or-set_other xs i k v (pos 0) other ∙ h.told k (omega arith) ];
-      rest = λ k above under. get_or-set_other xs i k v (pos 0) (λ same. omega arith) ∙ h.rest k (omega arith) under;
-    }
-
-pub filled_none : (g : ℕ → ℤ) → Filled g 0 (replicate 64 (pos 0))
-filled_none g =
-    record { long = length-replicate 64 (pos 0); told = λ k below. absurd (omega arith); rest = λ k above under. get_or-replicate 64 k (pos 0) (pos 0) under }
 
 per_bus_at : (last : ℕ) (g : ℕ → ℤ) (k : ℕ) (d : ℤ) → k < 64 → get_or (per_bus last g) k d ≡ cond (leb (k + 1) last) (g (k + 1)) (pos 0)
 unfolding per_bus

@@ -1,8 +1,9 @@
 -- What one setting moves, and how far a voltage can be from 0.
-use Rattle.std.proofs.Common.{◌≡◌, ℕ, zero, suc, ◌+◌, ◌*◌, ◌<◌, ◌≤◌, true, cond, ℤ, pos, ◌+ℤ◌, ◌*ℤ◌, nat_abs, sym, refl, ap, ◌∙◌, subst, inl, inr, add-one, arith}
+use Rattle.std.proofs.Common.{◌≡◌, ℕ, zero, suc, ◌+◌, ◌*◌, ◌<◌, ◌≤◌, true, cond, ℤ, pos, negsuc, ◌+ℤ◌, ◌-ℤ◌, ◌*ℤ◌, nat_abs, sym, refl, ap, ◌∙◌, subst, inl, inr, add-one, arith, w64, SFits, to_z, of_z}
 use mathlib.Core.Path.{fun_ext}
 use lib.IntN.{*ℤ-zero}
-use Rattle.std.proofs.lemmas.Int.{ints, unsigned_abs-mul}
+use lib.Signed.{mag}
+use Rattle.std.proofs.lemmas.Int.{ints, unsigned_abs-mul, to_z-of_z}
 use Rattle.std.proofs.lemmas.Nat.{mul-le}
 use Rattle.std.proofs.lemmas.Bool.{cases_eq, cases_Bool, cond-true, cond-false, leb-true, eq-eqb, ne_eqb, eqb-true, and_parts}
 use Rattle.probing.specs.Facts.{Facts, Bounded, voltage, sum_to, share, replaced, with_settings, with_setting}
@@ -105,3 +106,22 @@ sum_bounded f bounds n (suc k) = omega (arith, ints, sum_suc k (share f n), sum_
 pub voltage_bounded : (f : Facts) → Bounded f → (n : ℕ) → nat_abs (voltage f n) ≤ 65000000000
 unfolding voltage
 voltage_bounded f bounds n = omega (arith, ints, sum_bounded f bounds n f.buses, bounds.standings n, bounds.few)
+
+mag_below : (z : ℤ) (h : ℕ) → nat_abs z < h → mag z < h
+mag_below (pos n) h lt = lt
+mag_below (negsuc n) h lt = omega arith
+
+near_fits : (z : ℤ) → nat_abs z ≤ 130000000000 → SFits w64 z
+near_fits z near = record { sfits = mag_below z 9223372036854775808 (omega arith) }
+
+-- a change of 64 bits from one voltage to another is the change
+pub change_fits :
+    (before after change : ℤ) → change ≡ to_z w64 (of_z w64 (to_z w64 (of_z w64 after) -ℤ to_z w64 (of_z w64 before))) →
+    nat_abs before ≤ 65000000000 → nat_abs after ≤ 65000000000 → change ≡ after -ℤ before
+change_fits before after change told b a =
+    let was = to_z-of_z w64 before (near_fits before (omega (arith, b))) in
+    let is = to_z-of_z w64 after (near_fits after (omega (arith, a))) in
+    told ∙
+    ap (λ z. to_z w64 (of_z w64 (z -ℤ to_z w64 (of_z w64 before)))) is ∙
+    ap (λ z. to_z w64 (of_z w64 (after -ℤ z))) was ∙
+    to_z-of_z w64 (after -ℤ before) (near_fits (after -ℤ before) (omega (arith, ints, a, b)))

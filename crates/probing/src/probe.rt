@@ -4,13 +4,15 @@ ghost use Rattle.probing.specs.Answers.{read_all_of, probe_of};
 
 use crate::fault::SourceFault;
 use crate::interface::Source;
+use feeder::MOST_METERED;
+use std::array;
 
-// Reads every meter in bus order: the voltage of bus n stands at n - 1, and 0 behind the last bus. The places are fixed, since nothing
-// is allocated here.
-pub fn read_all<S: Source>(source: &S) -> Result<[i64; 64], SourceFault>
+// Reads every meter in bus order: the voltage of bus n stands at n - 1, and 0 behind the last bus. An array and no `ArrayVec`:
+// the contract tells all 64 places, and may not tell less.
+pub fn read_all<S: Source>(source: &S) -> Result<[i64; MOST_METERED], SourceFault>
     ensures { result ≡ read_all_of (S.Source.facts source.now) }
 {
-    let mut readings = [0; 64];
+    let mut readings = [0; MOST_METERED];
     for (index, reading) in readings[..source.buses()].iter_mut().enumerate() {
         *reading = source.read(index + 1)?;
     }
@@ -18,16 +20,12 @@ pub fn read_all<S: Source>(source: &S) -> Result<[i64; 64], SourceFault>
 }
 
 // The change of each voltage.
-fn changes(before: &[i64; 64], after: &[i64; 64]) -> [i64; 64]
+fn changes(before: &[i64; MOST_METERED], after: &[i64; MOST_METERED]) -> [i64; MOST_METERED]
     requires { Voltages before.now × Voltages after.now }
     ensures long { length result ≡ 64 }
     ensures told { (k : ℕ) → k < 64 → slice_index_or result k (pos 0) ≡ slice_index_or after.now k (pos 0) -ℤ slice_index_or before.now k (pos 0) }
 {
-    let mut changes = [0; 64];
-    for (index, change) in changes.iter_mut().enumerate() {
-        *change = after[index] - before[index];
-    }
-    changes
+    array::from_fn(|i| after[i] - before[i])
 }
 
 // Reads every meter, commands the step, reads again and withdraws: the change of each bus's voltage, which is its
@@ -36,7 +34,7 @@ pub fn probe_once<S: Source>(
     source: &mut S,
     inverter: usize,
     step: i32,
-) -> Result<[i64; 64], SourceFault>
+) -> Result<[i64; MOST_METERED], SourceFault>
     ensures answer { result ≡ probe_of (S.Source.facts source.old) inverter step }
     ensures effect { S.Source.facts source.new ≡ S.Source.facts source.old }
 {

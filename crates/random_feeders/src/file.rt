@@ -1,9 +1,9 @@
 // The response file of a feeder with an inverter at every metered bus.
 ghost use Rattle.std.specs.Prelude.{◌+◌, ◌^◌, ◌<◌, ◌≤◌};
 
+use crate::maker::Maker;
 use crate::random::Random;
 use feeder::Map;
-use std::alloc::Global;
 use std::io;
 
 // What is told otherwise than the feeder has it: the response of a bus to an inverter, or also the mirrored one.
@@ -13,6 +13,7 @@ pub(crate) struct Change {
     inverter: usize,
     both: bool,
     size: u64,
+    // Not a sign of the size: a change down that would pass 0 goes up.
     up: bool,
     ghost little: { size ≤ 3 },
 }
@@ -78,7 +79,8 @@ fn write_header(text: &mut String, metered: usize) -> io::Result<()> {
     Ok(())
 }
 
-// A voltage change, in billionths.
+// A voltage change, in billionths. The program `responses` prints its values alike: one `Display` for both would be public in a crate
+// below for these two alone.
 fn write_voltage(text: &mut String, sign: &'static str, billionths: u64) -> io::Result<()> {
     let whole = billionths / 1_000_000_000;
     let part = billionths % 1_000_000_000;
@@ -107,19 +109,16 @@ fn write_record(
     Ok(())
 }
 
-// The records come in the order of the inverters from any one on.
-pub(crate) fn file_of(
-    heap: Global,
-    map: &Map,
-    change: Option<&Change>,
-    random: &mut Random,
-) -> io::Result<String> {
-    let metered = map.metered();
-    let mut text = String::new(heap);
-    write_header(&mut text, metered)?;
-    let first = random.below(metered.max(1));
-    for inverter in (first + 1..=metered).chain(1..=first) {
-        write_record(&mut text, map, change, inverter, random)?;
+impl Maker {
+    // The records come in the order of the inverters from any one on.
+    pub(crate) fn file_of(&mut self, map: &Map, change: Option<&Change>) -> io::Result<String> {
+        let metered = map.metered();
+        let mut text = String::new(self.heap);
+        write_header(&mut text, metered)?;
+        let first = self.random.below(metered.max(1));
+        for inverter in (first + 1..=metered).chain(1..=first) {
+            write_record(&mut text, map, change, inverter, &mut self.random)?;
+        }
+        Ok(text)
     }
-    Ok(text)
 }

@@ -4,16 +4,16 @@
 
 mod file;
 mod growth;
+mod maker;
 mod plan;
 mod random;
 mod surveys;
 
-use crate::file::{Change, file_of};
-use crate::growth::grow;
+use crate::file::Change;
+use crate::maker::Maker;
 use crate::plan::Plan;
-use crate::random::Random;
-use crate::surveys::{complete, reduced};
-use feeder::Map;
+use crate::surveys::reduced;
+use feeder::{MOST_METERED, Map};
 use refusals::Refusal;
 use std::io;
 
@@ -50,52 +50,42 @@ fn print_answer(
 }
 
 // The reduced feeder of the feeder's response file, and the complete one of its lines.
-fn show_feeder(
-    rt: &HostRuntime,
-    number: usize,
-    plan: &Plan,
-    random: &mut Random,
-) -> io::Result<()> {
-    let Some(map) = grow(rt.alloc(), plan, random)? else {
+fn show_feeder(rt: &HostRuntime, number: usize, plan: &Plan, maker: &mut Maker) -> io::Result<()> {
+    let Some(map) = maker.grow(plan)? else {
         return println!(rt; "feeder {number}: no map");
     };
-    let file = file_of(rt.alloc(), &map, None, random)?;
+    let file = maker.file_of(&map, None)?;
     print_answer(rt, number, "reduced", reduced(file.as_bytes()))?;
-    if map.buses() <= 64 {
-        print_answer(rt, number, "complete", complete(rt.alloc(), &map, random)?)?;
+    if map.buses() <= MOST_METERED {
+        print_answer(rt, number, "complete", maker.complete(&map)?)?;
     }
     Ok(())
 }
 
 // The reduced feeder of the feeder's response file with a change.
-fn show_changed(
-    rt: &HostRuntime,
-    number: usize,
-    plan: &Plan,
-    random: &mut Random,
-) -> io::Result<()> {
-    let Some(map) = grow(rt.alloc(), plan, random)? else {
+fn show_changed(rt: &HostRuntime, number: usize, plan: &Plan, maker: &mut Maker) -> io::Result<()> {
+    let Some(map) = maker.grow(plan)? else {
         return println!(rt; "feeder {number}: no map");
     };
-    let change = Change::any(plan.metered, random);
-    let file = file_of(rt.alloc(), &map, Some(&change), random)?;
+    let change = Change::any(plan.metered, &mut maker.random);
+    let file = maker.file_of(&map, Some(&change))?;
     print_answer(rt, number, "changed", reduced(file.as_bytes()))
 }
 
 fn main(rt: HostRuntime) -> io::Result<()> {
-    let mut random = Random::new();
+    let mut maker = Maker::new(rt.alloc());
     for number in 1..=200 {
-        let plan = Plan::small(&mut random);
-        show_feeder(&rt, number, &plan, &mut random)?;
+        let plan = Plan::small(&mut maker.random);
+        show_feeder(&rt, number, &plan, &mut maker)?;
     }
     for number in 201..=280 {
-        let plan = Plan::small(&mut random);
-        show_changed(&rt, number, &plan, &mut random)?;
+        let plan = Plan::small(&mut maker.random);
+        show_changed(&rt, number, &plan, &mut maker)?;
     }
     for number in 281..=292 {
-        let plan = Plan::large(&mut random);
-        show_feeder(&rt, number, &plan, &mut random)?;
+        let plan = Plan::large(&mut maker.random);
+        show_feeder(&rt, number, &plan, &mut maker)?;
     }
-    let plan = Plan::full(&mut random);
-    show_feeder(&rt, 293, &plan, &mut random)
+    let plan = Plan::full(&mut maker.random);
+    show_feeder(&rt, 293, &plan, &mut maker)
 }

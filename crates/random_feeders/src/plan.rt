@@ -2,6 +2,7 @@
 ghost use Rattle.std.specs.Prelude.{◌≡◌, ◌+◌, ◌^◌, ◌<◌, ◌≤◌};
 
 use crate::random::Random;
+use feeder::MOST_METERED;
 
 // Where each bus joins those that are there.
 #[derive(Clone, Copy, PartialEq, Eq, Debug)]
@@ -49,7 +50,8 @@ pub(crate) struct Plan {
 }
 
 impl Plan {
-    // No bus lies beyond distance 1,000,000.
+    // No bus lies beyond distance 1,000,000. That a bus is metered is asked by a clause, here, below and for a change: a type for the
+    // count would wrap one number.
     fn new(
         metered: usize,
         unmetered: usize,
@@ -98,13 +100,13 @@ impl Plan {
     // 20 to 64 metered buses.
     pub(crate) fn large(random: &mut Random) -> Plan {
         let metered = 20 + random.below(45);
-        let unmetered = random.below(64);
+        let unmetered = random.below(MOST_METERED);
         Plan::any(metered, unmetered, random)
     }
 
     // 64 metered buses below 63 unmetered ones with two lines down each.
     pub(crate) fn full(random: &mut Random) -> Plan {
-        Plan::new(64, 63, Shape::Forks, true, random)
+        Plan::new(MOST_METERED, MOST_METERED - 1, Shape::Forks, true, random)
     }
 
     pub(crate) fn buses(&self) -> usize

@@ -1,9 +1,8 @@
 // What a survey draws of a random feeder.
-use crate::random::Random;
+use crate::maker::Maker;
 use feeder::{Kind, Map};
 use refusals::Refusal;
 use sources::FeederSource;
-use std::alloc::Global;
 use std::io;
 use survey::{survey_feeder, survey_file};
 
@@ -14,49 +13,42 @@ pub(crate) fn reduced(file: &[u8]) -> Result<Map, Refusal> {
     Ok(map)
 }
 
-// Inverters at the ends and at any other buses. About every eighth feeder has a bus that goes without, be it an end or not.
-fn inverters(heap: Global, map: &Map, random: &mut Random) -> io::Result<Vec<usize>> {
-    let bare = if random.below(8) == 0 {
-        Some(1 + random.below(map.buses().max(1)))
-    } else {
-        None
-    };
-    let mut inverters = Vec::new(heap);
-    for bus in 1..=map.buses() {
-        let wanted = random.flip() || map.is_end(bus) == Some(true);
-        if wanted && bare != Some(bus) {
-            inverters.push(bus)?;
-        }
+impl Maker {
+    // Inverters at the ends and at any other buses. About every eighth feeder has a bus that goes without, be it an end or not.
+    fn inverters(&mut self, map: &Map) -> io::Result<Vec<usize>> {
+        let goes_without = self.random.below(8) == 0;
+        let bare = goes_without.then(|| 1 + self.random.below(map.buses().max(1)));
+        let inverters = (1..=map.buses())
+            .filter(|&bus| {
+                let wanted = self.random.flip() || map.is_end(bus) == Some(true);
+                wanted && bare != Some(bus)
+            })
+            .collect(self.heap)?;
+        Ok(inverters)
     }
-    Ok(inverters)
-}
 
-// Any standing voltage for each bus.
-fn standing(heap: Global, map: &Map, random: &mut Random) -> io::Result<Vec<i64>> {
-    let mut voltages = Vec::new(heap);
-    for _ in 0..map.buses() {
+    // Any standing voltage for each bus.
+    fn standing(&mut self, map: &Map) -> io::Result<Vec<i64>> {
         // What is below the bound fits, so try_from would be no plainer.
-        voltages.push(random.below(2_000_000_001) as i64 - 1_000_000_000)?;
+        let voltages = (0..map.buses())
+            .map(|_| self.random.below(2_000_000_001) as i64 - 1_000_000_000)
+            .collect(self.heap)?;
+        Ok(voltages)
     }
-    Ok(voltages)
-}
 
-// The complete feeder of a source of the map's lines: there every bus is metered.
-pub(crate) fn complete(
-    heap: Global,
-    map: &Map,
-    random: &mut Random,
-) -> io::Result<Result<Map, Refusal>> {
-    let inverters = inverters(heap, map, random)?;
-    let standing = standing(heap, map, random)?;
-    let mut source = FeederSource::new();
-    let mut drawn = Map::new();
-    let answer = survey_feeder(
-        map,
-        inverters.as_slice(),
-        standing.as_slice(),
-        &mut source,
-        &mut drawn,
-    );
-    Ok(answer.map(|()| drawn).map_err(Refusal::from))
+    // The complete feeder of a source of the map's lines: there every bus is metered.
+    pub(crate) fn complete(&mut self, map: &Map) -> io::Result<Result<Map, Refusal>> {
+        let inverters = self.inverters(map)?;
+        let standing = self.standing(map)?;
+        let mut source = FeederSource::new();
+        let mut drawn = Map::new();
+        let answer = survey_feeder(
+            map,
+            inverters.as_slice(),
+            standing.as_slice(),
+            &mut source,
+            &mut drawn,
+        );
+        Ok(answer.map(|()| drawn).map_err(Refusal::from))
+    }
 }

@@ -2,6 +2,7 @@
 
 #![tactic(auto)]
 
+use printing::MOST_MAP_BYTES;
 use std::io;
 use std::io::{Read, Write};
 use survey::reducedmap;
@@ -9,7 +10,7 @@ use survey::reducedmap;
 fn main(rt: HostRuntime) -> io::Result<()> {
     let mut file = Vec::new(rt.alloc());
     rt.stdin().read_to_end(&mut file)?;
-    let mut text = [0; 2_300];
+    let mut text = [0; MOST_MAP_BYTES];
     let length = reducedmap(file.as_slice(), &mut text).unwrap();
     rt.stdout().write_all(&text[..length])
 }

@@ -9,4 +9,5 @@ pub mod Readings
 pub mod Unique
 pub mod Held
 pub mod Rows
+pub mod Counts
 pub mod Quotes

@@ -1,5 +1,5 @@
 -- What a reader finds in a file's bytes from a place on.
-use Rattle.std.specs.Prelude.{ℕ, zero, suc, ◌+◌, Bool, cond, ◌&&◌, List, [], ◌∷◌, length, take, drop, ◌==◌, nat_le, nat_lt, slice_index}
+use Rattle.std.specs.Prelude.{ℕ, zero, suc, ◌+◌, Bool, cond, ◌&&◌, List, [], ◌∷◌, length, take, drop, ◌==◌, nat_lt, slice_index}
 use Rattle.std.specs.List.{prefix_len}
 use Rattle.rfc4180.specs.Grammar.{text_data}
 use Rattle.rfc4180.specs.Places.{Content, plainly, quotedly, nothing, Piece}
@@ -48,11 +48,6 @@ piece_at file p = record { content = cond (quoted_at file p) (quotedly (undouble
 abbrev pub fields_from : ℕ → List ℕ → ℕ → List Piece
 fields_from zero file p = []
 fields_from (suc n) file p = piece_at file p ∷ fields_from n file (field_end file p + 1)
-
--- the same, as far as they start within the file
-abbrev pub fields_left : ℕ → List ℕ → ℕ → List Piece
-fields_left zero file p = []
-fields_left (suc n) file p = cond (nat_le p (length file)) (piece_at file p ∷ fields_left n file (field_end file p + 1)) []
 
 -- how many fields a record has, and where its last one ends
 pub record Extent : Type 0 where

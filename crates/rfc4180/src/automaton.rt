@@ -6,8 +6,8 @@ ghost use Rattle.rfc4180.specs.declared.automaton.State.TheVariants.{Start};
 use crate::Fault;
 use crate::scan::is_text;
 
-// How many bytes a file may have.
-const LIMIT: usize = 65_536;
+// The most bytes that a file has.
+pub const MOST_BYTES: usize = 65_536;
 
 // Where in a file a byte stands.
 #[derive(Clone, Copy, PartialEq, Eq, Debug)]
@@ -81,7 +81,7 @@ pub fn check(file: &[u8]) -> Result<(), Fault>
     ensures verdict { Verdict file.now result }
     ensures parsed { Parsed file.now result }
 {
-    if file.len() > LIMIT {
+    if file.len() > MOST_BYTES {
         return Err(Fault::TooLong);
     }
     scan(file)

@@ -9,7 +9,7 @@ mod place;
 mod reader;
 mod scan;
 
-pub use automaton::check;
+pub use automaton::{MOST_BYTES, check};
 pub use fault::Fault;
 pub use field::Field;
 pub use reader::{Fields, Reader, Record};

@@ -43,9 +43,7 @@ impl<'a> Place<'a> {
     fn quoted(self) -> Option<&'a [u8]>
         ensures { option_map (λ x. x.now) result ≡ cond (quoted_at self.entry.file.now self.entry.at) (Some (held_at self.entry.file.now self.entry.at)) None }
     {
-        let [b'"', held @ ..] = self.rest() else {
-            return None;
-        };
+        let held = self.rest().strip_prefix(b"\"")?;
         let close = closing_quote(held)?;
         Some(&held[..close])
     }
@@ -78,6 +76,7 @@ impl<'a> Place<'a> {
         requires { end ≤ length self.file.now }
         ensures { fields_after result ≡ cond (slice_index self.entry.file.now end == 0x2C) (record_at self.entry.file.now (end + 1)) [] }
     {
+        // An `if`, here and below: a closure for `then` doesn't know the test, and would need both ghost fields as clauses of its own.
         if self.file.get(end) == Some(&b',') {
             Some(Place {
                 file: self.file,

@@ -8,7 +8,7 @@ use crate::place::Place;
 use crate::{Fault, Field, check};
 
 // The records of a checked file that are still to be read.
-#[derive(Drop)]
+#[derive(Clone, Copy)]
 pub struct Reader<'a> {
     next: Option<Place<'a>>,
 }
@@ -67,13 +67,9 @@ impl<'a> Record<'a> {
         ensures pieces { pieces result ≡ record_at first.entry.file.now first.entry.at }
         ensures within { (outline result).end ≤ length first.entry.file.now }
     {
-        // Counted by hand, since `count` and `last` would go over the record's bytes twice.
-        let mut fields = 0;
-        let mut end = first.at();
-        for field in (Fields { next: Some(first) }) {
-            fields += 1;
-            end = field.end();
-        }
+        let all = Fields { next: Some(first) };
+        // One `fold`, since `count` and `last` would go over the record's bytes twice.
+        let (fields, end) = all.fold((0, first.at()), |(n, _), field| (n + 1, field.end()));
         Record { first, fields, end }
     }
 

@@ -4,7 +4,7 @@ use mathlib.Core.Path.{fun_ext}
 use Rattle.std.proofs.lemmas.List.{get_or-set_same, get_or-set_other, get_or_past, get_or_append_left, get_or-append_right, get_or-drop, take_more}
 use Rattle.std.proofs.lemmas.List.Sums.{fails_before_first, passes_at_first}
 use Rattle.std.specs.List.{position, position_or_len}
-use Rattle.std.proofs.lemmas.Bool.{cases_lt, cases_eq, cases_Bool, leb-true, le-leb, lt-ltb, le-ltb, ltb-false, not-false, not_from_true, and_parts, and_from, and_right, eq-eqb, ne_eqb, cond-true, cond-false}
+use Rattle.std.proofs.lemmas.Bool.{cases_lt, cases_eq, cases_Bool, leb-true, le-leb, lt-ltb, le-ltb, ltb-false, not-false, not_from_true, and_parts, and_from, eq-eqb, ne_eqb, cond-true, cond-false}
 use Rattle.feeder.specs.declared.line.Line.{Line}
 use Rattle.feeder.specs.Way.{is_in}
 use Rattle.files.proofs.Added.{everywhere}
@@ -13,7 +13,7 @@ use Rattle.probing.specs.declared.fault.SourceFault.TheVariants.{InverterEntry, 
 use Rattle.probing.specs.Facts.{Facts}
 use Rattle.sources.specs.TableFacts.{within, setting_of}
 use Rattle.sources.specs.LineFacts.{marked, standing_of, line_facts, feeder_facts, Steady}
-use Rattle.sources.specs.LineMaking.{first_at, refused_at, misplaced, first_misplaced, too_far, first_too_far, made_facts, make_of, lone_line, new_feeder, Marks, Copies}
+use Rattle.sources.specs.LineMaking.{first_at, refused_at, misplaced, first_misplaced, too_far, first_too_far, made_facts, make_of, Marks, Copies}
 
 -- the first that passes
 
@@ -187,15 +187,6 @@ made_means F xs ys marks places few h g =
       | inr f ↦ ap (λ q. q && get_or marks (m - 1) false) f ∙ sym (ap (λ q. q && is_in xs m) f)
     ])
     (λ n. ap (λ z. cond (within (length F) n) z (pos 0)) (g (n - 1)))
-
-pub new_means : feeder_facts (lone_line ∷ []) (replicate 64 false) (replicate 64 (pos 0)) (replicate 64 (pos 0)) ≡ new_feeder
-new_means =
-    feeder_means (lone_line ∷ []) (replicate 64 false) (replicate 64 (pos 0)) _ _
-    (λ m. and_right (within 1 m) (get_or (replicate 64 false) (m - 1) false) (everywhere 64 (m - 1) false))
-    (λ n. elim (cases_Bool (within 1 n)) [
-      | inl t ↦ cond-true _ _ _ t ∙ everywhere 64 (n - 1) (pos 0)
-      | inr f ↦ cond-false _ _ _ f
-    ])
 
 -- where no condition holds, the source is made
 pub make_accepted :

@@ -5,9 +5,9 @@ ghost use Rattle.sources.specs.Lines.{feeder_bounded};
 ghost use Rattle.sources.specs.Settings.{settled_empty};
 ghost use Rattle.sources.specs.TableFacts.{Few};
 
-use crate::grid::{Grid, MOST_METERED};
+use crate::grid::Grid;
 use crate::grid_source::GridSource;
-use feeder::Map;
+use feeder::{MOST_METERED, Map};
 
 mod making;
 
@@ -39,20 +39,13 @@ impl Grid for FeederGrid {
     }
 
     fn standing(&self, bus: usize) -> Option<i64> {
-        if self.is_metered(bus) {
-            Some(self.standing[bus - 1])
-        } else {
-            None
-        }
+        self.is_metered(bus).then(|| self.standing[bus - 1])
     }
 
     fn response(&self, bus: usize, inverter: usize) -> i64 {
         if !self.has_inverter(inverter) || !self.is_metered(bus) {
             return 0;
         }
-        match self.map.response(bus, inverter) {
-            Some(response) => i64::from(response),
-            None => 0,
-        }
+        self.map.response(bus, inverter).map_or(0, i64::from)
     }
 }

@@ -2,9 +2,6 @@ ghost use Rattle.std.specs.Prelude.{◌≡◌};
 ghost use Rattle.probing.specs.Facts.{Facts, Bounded, metered};
 ghost use Rattle.sources.specs.GridFacts.{standing_heard};
 
-// The most metered buses that a source has.
-pub(crate) const MOST_METERED: usize = 64;
-
 // What a source of our own answers from. It means the facts with every inverter on its schedule.
 pub trait Grid {
     ghost idle: { Self → Facts };

@@ -20,27 +20,21 @@ impl<G: Grid> GridSource<G> {
     fn setting_at(&self, bus: usize) -> Option<i32>
         ensures { result ≡ cond ((G.idle self.now.grid).inverter bus) (Some (slice_index_or self.now.settings.thousandths (bus - 1) (pos 0))) None }
     {
-        if self.grid.has_inverter(bus) {
-            Some(self.settings.of(bus))
-        } else {
-            None
-        }
+        self.grid.has_inverter(bus).then(|| self.settings.of(bus))
     }
 
     // What an inverter adds to the voltage of a bus.
     fn share(&self, bus: usize, inverter: usize) -> i64
         ensures { result ≡ share (stepped (G.idle self.now.grid) self.now.settings.thousandths) bus inverter }
     {
-        match self.setting_at(inverter) {
-            Some(setting) => product(self.grid.response(bus, inverter), setting),
-            None => 0,
-        }
+        product(self.grid.response(bus, inverter), self.setting(inverter))
     }
 
     // What all inverters add to the voltage of a bus.
     fn shares(&self, bus: usize) -> i64
         ensures { result ≡ sum_to (G.idle self.now.grid).buses (share (stepped (G.idle self.now.grid) self.now.settings.thousandths) bus) }
     {
+        // Tried as a chain of map and sum: that the signed sum may run, and what it gives, were not proved.
         let mut sum = 0;
         for inverter in 1..=self.grid.buses() {
             sum += self.share(bus, inverter);

@@ -1,7 +1,7 @@
 ghost use Rattle.std.specs.Prelude.{◌≡◌, ◌-◌, ◌≤◌, pos, replicate, slice_index_or, slice_set, unsigned_abs};
 ghost use Rattle.sources.specs.TableFacts.{Settled};
 
-use crate::grid::MOST_METERED;
+use feeder::MOST_METERED;
 
 // How far each inverter is off its schedule, in thousandths: that of the inverter at bus m stands at m - 1. It holds no
 // `Option`s, since where inverters are is for the grid to say: a second record of it would be no plainer.

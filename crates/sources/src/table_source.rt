@@ -32,20 +32,15 @@ impl Grid for TableGrid {
     }
 
     fn standing(&self, bus: usize) -> Option<i64> {
-        if self.is_metered(bus) && !self.table.mute[bus - 1] {
-            Some(0)
-        } else {
-            None
-        }
+        (self.is_metered(bus) && !self.table.mute[bus - 1]).then_some(0)
     }
 
     fn response(&self, bus: usize, inverter: usize) -> i64 {
         if !self.has_inverter(inverter) || !self.is_metered(bus) {
             return 0;
         }
-        match &self.table.probes[inverter - 1] {
-            Some(probe) => probe.responses[bus - 1],
-            None => 0,
-        }
+        self.table.probes[inverter - 1]
+            .as_ref()
+            .map_or(0, |probe| probe.responses[bus - 1])
     }
 }

@@ -10,6 +10,7 @@ use printing::{write_map, write_refusal};
 use refusals::Refusal;
 
 // Surveys a response file and writes the map file of the drawn feeder, or the first refusal.
+#[tactic(auto, using(crate::proofs::OneText::texts_are_alone))]
 fn print_survey(file: &[u8], kind: Kind, out: &mut [u8]) -> Result<usize, FileFault>
     ensures prints { Prints file.now kind out.old out.new result }
     ensures room { 2300 ≤ length out.old → is_ok result ≡ true }
@@ -32,7 +33,8 @@ pub fn fullmap(file: &[u8], out: &mut [u8]) -> Result<usize, FileFault>
     print_survey(file, Kind::Complete, out)
 }
 
-/// The same with the reduced map. Both are one function over the kind, with a name for each program.
+/// The same with the reduced map. Both are one function over the kind, which one with the kind as an argument would not make plainer
+/// for a program of either.
 pub fn reducedmap(file: &[u8], out: &mut [u8]) -> Result<usize, FileFault>
     ensures prints { Prints file.now Reduced out.old out.new result }
     ensures room { 2300 ≤ length out.old → is_ok result ≡ true }

@@ -41,10 +41,6 @@ cut_at (x ∷ xs) ys d e =
     let parts = and_parts (digit x) (digits xs) d in
     cond-true _ _ _ (digit_no_point x parts.0) ∙ one-add (whole_length (xs ++ ys)) ∙ ap suc (cut_at xs ys parts.1 e)
 
-pointed_cut : (xs : List ℕ) → whole_length (pointed xs) ≡ 0
-pointed_cut [] = refl
-pointed_cut (x ∷ xs) = refl
-
 -- Every decimal reads as its value.
 
 first_digit : (xs ys : List ℕ) → digits xs ≡ true → 1 ≤ length xs → is_minus (xs ++ ys) ≡ false

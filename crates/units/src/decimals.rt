@@ -9,16 +9,13 @@ fn number(text: &[u8], most: usize) -> Option<u64>
     ensures value { result ≡ number_of most text.now }
     ensures small { IfSome result (λ n. n < 10 ^ 9) }
 {
-    if text.is_empty() || text.len() > most {
+    if !(1..=most).contains(&text.len()) {
         return None;
     }
     // A `for`: a `try_fold` would put the early None and the sum into one closure, which reads no plainer.
     let mut n = 0;
     for b in text {
-        if !b.is_ascii_digit() {
-            return None;
-        }
-        n = n * 10 + u64::from(*b - b'0');
+        n = n * 10 + u64::from(char::from(*b).to_digit(10)?);
     }
     Some(n)
 }
@@ -60,13 +57,14 @@ fn split_point(body: &[u8]) -> (&[u8], Option<&[u8]>)
     }
 }
 
-// The size of a decimal with no sign, in units of 10 to the minus `places`.
-fn magnitude(body: &[u8], places: usize) -> Option<i64>
-    requires { places ≤ 9 }
-    ensures value { result ≡ option_map pos (magnitude_of places body.now) }
+// The size of a decimal with no sign, in the scale's units.
+fn magnitude(body: &[u8], scale: Scale) -> Option<i64>
+    ensures value { result ≡ option_map pos (magnitude_of (places_of scale) body.now) }
 {
+    let places = scale.places();
     let (whole, fraction) = split_point(body);
     let whole = scaled(number(whole, 4)?, places);
+    // A `match`: for `map_or` an arm would be a closure with a `?` and a `Some` of its own, which is no plainer.
     let part = match fraction {
         Some(digits) => scaled(number(digits, places)?, places - digits.len()),
         None => 0,
@@ -75,13 +73,12 @@ fn magnitude(body: &[u8], places: usize) -> Option<i64>
 }
 
 // The sign joined to the size.
-fn signed_value(text: &[u8], places: usize) -> Option<i64>
-    requires { places ≤ 9 }
-    ensures { result ≡ decimal_of places text.now }
+fn signed_value(text: &[u8], scale: Scale) -> Option<i64>
+    ensures { result ≡ decimal_of (places_of scale) text.now }
 {
     match text {
-        [b'-', digits @ ..] => Some(-magnitude(digits, places)?),
-        digits => magnitude(digits, places),
+        [b'-', digits @ ..] => Some(-magnitude(digits, scale)?),
+        digits => magnitude(digits, scale),
     }
 }
 
@@ -92,5 +89,5 @@ pub fn decimal(text: &[u8], scale: Scale) -> Option<i64>
     ensures form { Reads (places_of scale) text.now result }
     ensures sign { (d : Decimal) → Form (places_of scale) d → Sign (places_of scale) d }
 {
-    signed_value(text, scale.places())
+    signed_value(text, scale)
 }

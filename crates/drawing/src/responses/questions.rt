@@ -13,7 +13,8 @@ impl Responses {
         self.buses
     }
 
-    // Whether a bus has an inverter.
+    // Whether a bus has an inverter. It asks for the bounds of the bus, here and below: with none it would answer for buses that
+    // there are not, which is no plainer.
     pub(crate) fn has_inverter(&self, bus: usize) -> bool
         requires some { 0 < bus }
         requires few { bus ≤ 64 }
@@ -28,9 +29,8 @@ impl Responses {
         requires column { (0 < inverter) × (inverter ≤ 64) }
         ensures { result ≡ (entries_of self.now).entry bus inverter }
     {
-        match &self.columns[inverter - 1] {
-            Some(column) => column[bus - 1],
-            None => 0,
-        }
+        self.columns[inverter - 1]
+            .as_ref()
+            .map_or(0, |column| column[bus - 1])
     }
 }

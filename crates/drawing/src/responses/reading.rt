@@ -5,6 +5,7 @@ ghost use Rattle.drawing.specs.Responses.{entries_of, Reads, WrongColumns, Wrong
 
 use crate::columns::Columns;
 use crate::responses::Responses;
+use feeder::MOST_METERED;
 
 // The largest response of a feeder.
 const LARGEST: u32 = 1_000_000;
@@ -14,7 +15,7 @@ pub(crate) fn read_columns(columns: &Columns) -> Option<Responses>
     ensures { MatchOption result (WrongColumns (table_of columns.now)) (λ s. Reads (table_of columns.now) (entries_of s)) }
 {
     let buses = columns.buses;
-    if buses == 0 || buses > 64 {
+    if !(1..=MOST_METERED).contains(&buses) {
         return None;
     }
     let columns = unsigned_columns(columns)?;
@@ -22,11 +23,11 @@ pub(crate) fn read_columns(columns: &Columns) -> Option<Responses>
 }
 
 // The columns of the metered buses. `array::try_from_fn` is no plainer: it asks for a Result, and for a test of each place.
-fn unsigned_columns(columns: &Columns) -> Option<[Option<[u32; 64]>; 64]>
+fn unsigned_columns(columns: &Columns) -> Option<[Option<[u32; MOST_METERED]>; MOST_METERED]>
     requires { columns.now.buses ≤ 64 }
     ensures { MatchOption result (WrongEntry columns.now) (λ u. ReadTo columns.now columns.now.buses u) }
 {
-    let mut unsigned = [None; 64];
+    let mut unsigned = [None; MOST_METERED];
     for (m, column) in columns.columns[..columns.buses].iter().enumerate() {
         if let Some(column) = column {
             unsigned[m] = Some(unsigned_column(column, columns.buses)?);
@@ -36,11 +37,11 @@ fn unsigned_columns(columns: &Columns) -> Option<[Option<[u32; 64]>; 64]>
 }
 
 // The first entries of a column. Here too `array::try_from_fn` would ask for a Result, and for a test of each place.
-fn unsigned_column(column: &[i64; 64], buses: usize) -> Option<[u32; 64]>
+fn unsigned_column(column: &[i64; MOST_METERED], buses: usize) -> Option<[u32; MOST_METERED]>
     requires { buses ≤ 64 }
     ensures { MatchOption result ((n : ℕ) × (n < buses) × Wrong (slice_index_or column.now n (pos 0))) (λ u. ((n : ℕ) → n < buses → slice_index_or column.now n (pos 0) ≡ pos (slice_index u n)) × ((n : ℕ) → n < buses → slice_index u n ≤ 1000000)) }
 {
-    let mut unsigned = [0; 64];
+    let mut unsigned = [0; MOST_METERED];
     for (n, entry) in column[..buses].iter().enumerate() {
         unsigned[n] = magnitude(*entry)?;
     }

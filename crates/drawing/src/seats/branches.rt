@@ -9,9 +9,10 @@ use crate::responses::Responses;
 use crate::seat::Seat;
 use crate::seats::Seats;
 use arrayvec::ArrayVec;
+use feeder::MOST_METERED;
 
 // A drawn feeder has fewer unmetered buses than inverters.
-const MOST_UNMETERED: usize = 63;
+const MOST_UNMETERED: usize = MOST_METERED - 1;
 
 // The seats of the metered buses, beside the responses that they were found from.
 #[derive(Clone, Copy)]
@@ -21,57 +22,68 @@ pub(crate) struct Metered<'a> {
     ghost seated: { MeteredSeats (entries_of responses.now) seats.now },
 }
 
-impl Metered<'_> {
-    // How far inverter m's way goes with those of lower inverters.
-    fn floor(&self, m: usize) -> u32
-        requires { Inverter (entries_of self.now.responses.now) m }
-        ensures { FloorOf (entries_of self.now.responses.now) m result }
+// The way of an inverter, on which branches are sought.
+#[derive(Clone, Copy)]
+struct Way<'a> {
+    metered: Metered<'a>,
+    inverter: usize,
+    ghost stands: { Inverter (entries_of metered.responses.now) inverter },
+}
+
+impl Way<'_> {
+    // How far the way goes with those of lower inverters.
+    #[tactic(auto, using(crate::proofs::Reading::few))]
+    fn floor(&self) -> u32
+        ensures { FloorOf (entries_of self.now.metered.responses.now) self.now.inverter result }
     {
+        let responses = self.metered.responses;
         let mut floor = 0;
         // Tried as a chain of filter, map and max: that max may run, and what it gives, were not proved.
-        for k in 1..m {
-            if self.responses.has_inverter(k) {
-                let entry = self.responses.entry(k, m);
-                if entry > floor {
-                    floor = entry;
-                }
+        for k in 1..self.inverter {
+            if responses.has_inverter(k) {
+                let entry = responses.entry(k, self.inverter);
+                floor = floor.max(entry);
             }
         }
         floor
     }
 
-    // Whether no metered bus sits at the distance on inverter m's way.
-    fn is_free(&self, m: usize, distance: u32) -> bool
-        requires { Inverter (entries_of self.now.responses.now) m }
-        ensures { Decides result (Free (entries_of self.now.responses.now) self.now.seats.now m distance) }
+    // Whether no metered bus sits at the distance.
+    fn is_free(&self, distance: u32) -> bool
+        ensures { Decides result (Free (entries_of self.now.metered.responses.now) self.now.metered.seats.now self.now.inverter distance) }
     {
-        !(1..=self.responses.buses()).any(|n| {
-            self.responses.entry(n, m) == distance && self.seats[n].distance == distance
+        let Metered { responses, seats } = self.metered;
+        !(1..=responses.buses()).any(|n| {
+            responses.entry(n, self.inverter) == distance && seats[n].distance == distance
         })
     }
 
-    // The nearest branch on inverter m's way that is farther than a distance.
-    fn next_branch(&self, m: usize, above: u32) -> Option<u32>
-        requires { Inverter (entries_of self.now.responses.now) m }
-        ensures { MatchOption result ((v : ℕ) → above < v → BranchAt (entries_of self.now.responses.now) self.now.seats.now m v → ⊥) (λ v. BranchAfter (entries_of self.now.responses.now) self.now.seats.now m above v) }
+    // The nearest branch that is farther than a distance.
+    #[tactic(auto, using(crate::proofs::Reading::few))]
+    fn next_branch(&self, above: u32) -> Option<u32>
+        ensures { MatchOption result ((v : ℕ) → above < v → BranchAt (entries_of self.now.metered.responses.now) self.now.metered.seats.now self.now.inverter v → ⊥) (λ v. BranchAfter (entries_of self.now.metered.responses.now) self.now.metered.seats.now self.now.inverter above v) }
     {
-        let from = self.floor(m).max(above);
-        let end = self.responses.entry(m, m);
+        let responses = self.metered.responses;
+        let from = self.floor().max(above);
+        let end = responses.entry(self.inverter, self.inverter);
         let mut next = end;
         // Tried as a chain of filters and min: that min may run, and what it gives, were not proved. `1..=` would end the loop in
         // two ways, and what follows would be proved of each.
-        for k in 1..self.responses.buses() + 1 {
-            if self.responses.has_inverter(k) {
-                let candidate = self.responses.entry(k, m);
-                if candidate > from && candidate < next && self.is_free(m, candidate) {
+        for k in 1..responses.buses() + 1 {
+            if responses.has_inverter(k) {
+                let candidate = responses.entry(k, self.inverter);
+                if candidate > from && candidate < next && self.is_free(candidate) {
                     next = candidate;
                 }
             }
         }
         (next < end).then_some(next)
     }
+}
 
+impl Metered<'_> {
     // The first branch on bus m's way that comes behind a seat, where the bus has an inverter.
+    #[tactic(auto, using(crate::proofs::Reading::few))]
     fn seat_on(&self, last: Seat, m: usize) -> Option<Seat>
         requires some { 0 < last.inverter }
         requires from { last.inverter ≤ m }
@@ -81,7 +93,11 @@ impl Metered<'_> {
         if !self.responses.has_inverter(m) {
             return None;
         }
-        let distance = self.next_branch(m, distance_passed(last, m))?;
+        let way = Way {
+            metered: *self,
+            inverter: m,
+        };
+        let distance = way.next_branch(distance_passed(last, m))?;
         Some(Seat {
             inverter: m,
             distance,
@@ -101,10 +117,7 @@ impl Metered<'_> {
         ensures { MatchOption result (Overseated (entries_of self.now.responses.now)) (λ s. Seated (entries_of self.now.responses.now) s.items) }
     {
         let most = self.responses.buses() + MOST_UNMETERED;
-        let mut seats = ArrayVec::new();
-        for metered in self.seats {
-            seats.push(*metered);
-        }
+        let mut seats = ArrayVec::try_from(self.seats).unwrap();
         let mut last = Seat {
             inverter: 1,
             distance: 0,

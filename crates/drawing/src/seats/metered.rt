@@ -13,6 +13,7 @@ use arrayvec::ArrayVec;
 pub(crate) fn metered_seats(responses: &Responses) -> Option<Seats>
     ensures { MatchOption result ((n : ℕ) × Meter (entries_of responses.now) n × EmptyRow (entries_of responses.now) n) (λ s. MeteredSeats (entries_of responses.now) s.items) }
 {
+    // A `for` below: `collect` takes an allocator, and `extend` would stop at no empty row.
     let mut seats = ArrayVec::new();
     seats.push(Seat::default());
     for bus in 1..=responses.buses() {

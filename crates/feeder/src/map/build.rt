@@ -34,7 +34,7 @@ impl Map {
         if let Some(bus) = flawed(lines) {
             return Err(Fault::Flawed(bus));
         }
-        let distances = measured(lines)?;
+        let distances = SoundLines { lines }.measured()?;
         Ok(Map {
             metered,
             lines: own_lines,
@@ -53,35 +53,43 @@ fn flawed(lines: &[Line]) -> Option<usize>
         .map(|place| place + 1)
 }
 
-// The sum of the resistances on the way of a bus, where it is at most the farthest.
-// Each line adds at least 1, so a loop of parents passes that limit.
-fn reach(lines: &[Line], bus: usize) -> Option<u32>
-    requires small { bus ≤ length lines.now }
-    requires sound { (b : ℕ) → Bus lines.now b → IsFlawed lines.now b → ⊥ }
-    ensures { MatchOption result (IsBeyond lines.now bus) (λ d. (d ≤ 1000000) × Reaches lines.now bus d) }
-{
-    let mut at = bus;
-    let mut sum = 0;
-    while at != 0 {
-        let line = lines[at - 1];
-        if line.resistance > FARTHEST - sum {
-            return None;
-        }
-        sum += line.resistance;
-        at = line.parent;
-    }
-    Some(sum)
+// Lines of which none is flawed.
+#[derive(Clone, Copy)]
+struct SoundLines<'a> {
+    lines: &'a [Line],
+    ghost sound: { (b : ℕ) → Bus lines.now b → IsFlawed lines.now b → ⊥ },
 }
 
-// The distances of the substation and of every bus, or the lowest bus that lies beyond.
-fn measured(lines: &[Line]) -> Result<ArrayVec<u32, PLACES>, Fault>
-    requires short { length lines.now ≤ 127 }
-    requires sound { (b : ℕ) → Bus lines.now b → IsFlawed lines.now b → ⊥ }
-    ensures { MatchResult result (λ ds. Tabled lines.now ds.items) (λ e. (b : ℕ) × (e ≡ Fault.Beyond b) × Lowest lines.now (IsBeyond lines.now) b) }
-{
-    let mut distances = ArrayVec::new();
-    for bus in 0..=lines.len() {
-        distances.push(reach(lines, bus).ok_or(Fault::Beyond(bus))?);
+impl SoundLines<'_> {
+    // The sum of the resistances on the way of a bus, where it is at most the farthest.
+    // Each line adds at least 1, so a loop of parents passes that limit.
+    fn reach(self, bus: usize) -> Option<u32>
+        requires { bus ≤ length self.lines.now }
+        ensures { MatchOption result (IsBeyond self.entry.lines.now bus) (λ d. (d ≤ 1000000) × Reaches self.entry.lines.now bus d) }
+    {
+        let mut at = bus;
+        let mut sum = 0;
+        while at != 0 {
+            let line = self.lines[at - 1];
+            if line.resistance > FARTHEST - sum {
+                return None;
+            }
+            sum += line.resistance;
+            at = line.parent;
+        }
+        Some(sum)
     }
-    Ok(distances)
+
+    // The distances of the substation and of every bus, or the lowest bus that lies beyond.
+    fn measured(self) -> Result<ArrayVec<u32, PLACES>, Fault>
+        requires { length self.lines.now ≤ 127 }
+        ensures { MatchResult result (λ ds. Tabled self.entry.lines.now ds.items) (λ e. (b : ℕ) × (e ≡ Fault.Beyond b) × Lowest self.entry.lines.now (IsBeyond self.entry.lines.now) b) }
+    {
+        // A `for`: `collect` takes an allocator, of which these crates have none, and `extend` stops at no fault.
+        let mut distances = ArrayVec::new();
+        for bus in 0..=self.lines.len() {
+            distances.push(self.reach(bus).ok_or(Fault::Beyond(bus))?);
+        }
+        Ok(distances)
+    }
 }

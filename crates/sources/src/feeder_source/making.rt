@@ -5,9 +5,8 @@ ghost use Rattle.sources.specs.TableFacts.{within};
 ghost use Rattle.sources.specs.LineMaking.{meaning, lone_line, new_feeder, first_misplaced, first_too_far, make_of, Making, Marks, Copies};
 
 use crate::feeder_source::{FeederGrid, FeederSource};
-use crate::grid::MOST_METERED;
 use crate::settings::Settings;
-use feeder::{Line, Map};
+use feeder::{Line, MOST_METERED, Map};
 use probing::SourceFault;
 
 impl FeederSource {
@@ -25,7 +24,8 @@ impl FeederSource {
         }
     }
 
-    // Fills the place with the map's lines and what is listed, with every setting 0; refused, it is as it was.
+    // Fills the place with the map's lines and what is listed, with every setting 0; refused, it is as it was. The map and the lists
+    // are plain arguments: a struct of the three would be no plainer, since only a survey hands them on.
     pub fn make(
         &mut self,
         map: &Map,
@@ -35,7 +35,7 @@ impl FeederSource {
         ensures { Making (make_of (lines_of map.now) inverters.now standing.now) self.old self.new result }
     {
         let buses = map.buses();
-        if buses < 1 || buses > MOST_METERED {
+        if !(1..=MOST_METERED).contains(&buses) {
             return Err(SourceFault::MapSize { buses });
         }
         let marks = mark(buses, inverters)?;
@@ -61,11 +61,7 @@ impl FeederSource {
 fn one_bus() -> Map
     ensures { lines_of result ≡ lone_line ∷ [] }
 {
-    let line = Line {
-        parent: 0,
-        resistance: 1,
-    };
-    Map::from_lines(1, &[line]).unwrap()
+    Map::from_lines(1, &[Line::default()]).unwrap()
 }
 
 // A map of the same lines, with every bus metered.
@@ -76,11 +72,12 @@ fn same_lines(map: &Map) -> Map
     Map::from_lines(map.buses(), map.lines()).unwrap()
 }
 
+// That there are at most 64 buses is asked by clauses, here and where else places are counted: a type for the count would wrap one number.
 fn is_misplaced(buses: usize, marks: &[bool; MOST_METERED], bus: usize) -> bool
     requires { buses ≤ 64 }
     ensures { result ≡ not (within buses bus && not (slice_index_or marks.now (bus - 1) false)) }
 {
-    bus < 1 || bus > buses || marks[bus - 1]
+    !(1..=buses).contains(&bus) || marks[bus - 1]
 }
 
 // A mark at each bus that is listed.

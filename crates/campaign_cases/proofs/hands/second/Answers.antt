@@ -1,14 +1,14 @@
 use Rattle.std.proofs.Common.{w32, to_z, of_z}
 use Rattle.campaign.proofs.Stepping.{follows}
-use Rattle.campaign_cases.proofs.Held.{no_second, still_held}
+use Rattle.campaign_cases.proofs.Held.{second_refused, still_held}
 use Rattle.campaign_cases.proofs.hands.second.Goals as goal
 
-pub unreachable-requires : goal.unreachable-requires
-unreachable-requires g c =
+pub unwrap_err-refusal-requires : goal.unwrap_err-refusal-requires
+unwrap_err-refusal-requires g c =
     let h = follows (g.S.Source.facts c.args.source.now) (g.met.S.Source.bounded _) c.args.campaign.now c.args.inverter (to_z w32 (of_z w32 c.args.step)) _ _ _ c.in_ok-fresh.ensures in
-    absurd (no_second _ _ _ _ _ _ _ _ _ (h.match, h.out) c.in-Ok.ensures)
+    second_refused _ _ _ _ _ _ _ _ _ (h.match, h.out) c.commence-2.ensures
 
 pub put_back-requires : goal.put_back-requires
 put_back-requires g c =
     let h = follows (g.S.Source.facts c.args.source.now) (g.met.S.Source.bounded _) c.args.campaign.now c.args.inverter (to_z w32 (of_z w32 c.args.step)) _ _ _ c.in_ok-fresh.ensures in
-    still_held _ _ _ _ _ _ _ _ _ (h.match, h.out) c.in-Err.ensures
+    still_held _ _ _ _ _ _ _ _ _ (h.match, h.out) c.commence-2.ensures

@@ -12,4 +12,4 @@ pub returns-in_err-seats : goal.returns-in_err-seats
 returns-in_err-seats c = no_map c.args.kind (table_of c.args.columns.now) c.from_residual-in_err-seats.result c.from_residual-in_err-seats.ensures (λ _. unseated_none c.args.kind (table_of c.args.columns.now) (entries_of c.in_ok-responses.responses) c.in_ok-responses.ensures.natural c.in_err-seats.ensures)
 
 pub returns : goal.returns
-returns c = rw c.then_some.ensures (checked c.args.kind (table_of c.args.columns.now) (entries_of c.in_ok-responses.responses) c.in_ok-responses.ensures c.in_ok-seats.seats.items c.in_ok-seats.ensures c.wired_map-map.result (subst (λ seats. MapSeated (entries_of c.in_ok-responses.responses) seats c.wired_map-map.result) c.deref.ensures.0 c.wired_map-map.ensures) c.passes-passes.result c.passes-passes.ensures)
+returns c = rw c.then_some.ensures (checked c.args.kind (table_of c.args.columns.now) (entries_of c.in_ok-responses.responses) c.in_ok-responses.ensures c.in_ok-seats.seats.items c.in_ok-seats.ensures c.wired_map-map.result (subst (λ seats. MapSeated (entries_of c.in_ok-responses.responses) seats c.wired_map-map.result) c.deref.ensures.0 c.wired_map-map.ensures) c.passes.result c.passes.ensures)

@@ -1,14 +1,8 @@
 use Rattle.std.proofs.Common.{sym, ap, ◌∙◌}
-use Rattle.rfc4180.specs.Places.{held}
 use Rattle.rfc4180.specs.Views.{piece}
-use Rattle.files.proofs.Texts.{text_some, text_none, odd_bus}
+use Rattle.files.proofs.Texts.{text_some}
 use Rattle.units.specs.Decimals.{bus_of}
 use Rattle.files.proofs.numbers.bus_field.Goals as goal
-
-pub returns-in_err-text : goal.returns-in_err-text
-returns-in_err-text c =
-    let content = (piece c.args.field).content in
-    rw c.from_residual.ensures (sym (odd_bus (held content) (text_none content c.in_err-text.ensures)))
 
 pub returns : goal.returns
 returns c =

@@ -6,17 +6,12 @@ use Rattle.maps.proofs.Said.{map_told}
 use Rattle.maps.proofs.Trips.{written_maps_are_read}
 use Rattle.maps.proofs.reading.read_map.Goals as goal
 
-pub returns-in_err-open : goal.returns-in_err-open
-returns-in_err-open c =
-    let p = err_from_is_err_and c.from_residual.result c.from_residual.ensures.1 in
-    rw (p.1, p.2) (record { reads = map_unopened c.args.file.now c.args.place.now c.in_err-open.field-0.0 c.in_err-open.ensures; told = tt; stands = tt; back = written_maps_are_read })
-
 pub count-records-requires-clause-fits : goal.count-records-requires-clause-fits
-count-records-requires-clause-fits c = let few = few_records c.args.file.now c.in_ok-open.field-0 c.in_ok-open.ensures in search rules
+count-records-requires-clause-fits c = let few = few_records c.args.file.now c.in_ok-reader.reader c.in_ok-reader.ensures in search rules
 
 pub returns-in_err-reader : goal.returns-in_err-reader
 returns-in_err-reader c =
-    let p = err_from_is_err_and c.from_residual-in_err-reader.result c.from_residual-in_err-reader.ensures.1 in
+    let p = err_from_is_err_and c.from_residual.result c.from_residual.ensures.1 in
     rw (p.1, p.2) (record { reads = map_unopened c.args.file.now c.args.place.now c.in_err-reader.field-0.0 c.in_err-reader.ensures; told = tt; stands = tt; back = written_maps_are_read })
 
 pub returns-in_err-lines : goal.returns-in_err-lines

@@ -1,15 +1,13 @@
-use Rattle.std.proofs.Common.{◌≡◌, ◌+◌, ◌-◌, ◌++◌, length, get_or, drop, sym, ap, ◌∙◌, arith}
+use Rattle.std.proofs.Common.{◌≡◌, ◌+◌, ◌-◌, length, get_or, ap, ◌∙◌, arith}
 use Rattle.std.proofs.lemmas.List.{get_or_default}
 use Rattle.feeder.specs.declared.line.Line.{Line}
 use Rattle.feeder.specs.Feeder.{Bus, blank}
 use Rattle.feeder.specs.View.{lines_of}
 use Rattle.feeder.proofs.Maps.{parents, map_stands}
-use Rattle.printing.specs.MapTexts.{lines_text, map_text}
-use Rattle.printing.proofs.MapTexts.{lines_put, lines_put_all}
 use Rattle.printing.proofs.map_text.map_text.Goals as goal
 
-pub push_line-requires : goal.push_line-requires
-push_line-requires c =
+pub push_line-requires-clause-short : goal.push_line-requires-clause-short
+push_line-requires-clause-short c =
     let m = c.args.map.now in
     let i = c.loop-i.i in
     let lines = c.lines-lines.result.now in
@@ -20,20 +18,4 @@ push_line-requires c =
     let here = get_or_default lines i none blank c.loop-i-test.true ∙ ap (λ ls. get_or ls i blank) c.lines-lines.ensures in
     let place : i ≡ i + 1 - 1 = omega arith in
     let line = ap (λ (l : Line). l.parent) (here ∙ ap (λ k. get_or (lines_of m) k blank) place) in
-    record {
-      short = (omega (arith, count, most, c.loop-i-test.true), omega (arith, line, parents m (i + 1) bus, most));
-      room = omega (arith, c.loop-i.invariant.1, count, most, c.loop-i-test.true);
-    }
-
-pub loop-i-preserved : goal.loop-i-preserved
-loop-i-preserved c =
-    let i = c.loop-i.i in
-    let lines = c.lines-lines.result.now in (
-      ap (λ t. t ++ lines_text (i + 1 + 1) (drop (i + 1) lines)) c.push_line.ensures.bytes ∙ lines_put _ (i + 1) i lines _ c.loop-i-test.true ∙ c.loop-i.invariant.0,
-      omega (arith, c.push_line.ensures.len, c.loop-i.invariant.1),
-    )
-
-pub returns : goal.returns
-returns c =
-    let i = c.loop-i.i in
-    sym (lines_put_all _ (i + 1) i c.lines-lines.result.now c.loop-i-test.false) ∙ c.loop-i.invariant.0 ∙ ap map_text c.lines-lines.ensures
+    (omega (arith, count, most, c.loop-i-test.true), omega (arith, line, parents m (i + 1) bus, most))

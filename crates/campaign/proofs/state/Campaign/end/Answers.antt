@@ -1,9 +1,9 @@
-use Rattle.std.proofs.Common.{sym, ◌∙◌}
-use Rattle.campaign.proofs.Lists.{withdraw_stands}
+use Rattle.campaign.proofs.Lists.{known, withdraw_stands}
 use Rattle.campaign.proofs.state.Campaign.end.Goals as goal
 
 pub returns-in_err-withdraw : goal.returns-in_err-withdraw
 returns-in_err-withdraw g c =
-    absurd
-    (withdraw_stands (g.S.Source.facts c.args.source.now) c.args.self.now c.args.step.now.inverter c.args.step.now.size c.in_err-withdraw.field-0.0
-    (sym c.matches.ensures ∙ c.if-not-matches.false) (sym c.is_outstanding.ensures ∙ c.if-not-is_outstanding.false) c.in_err-withdraw.ensures.answer)
+    let f = g.S.Source.facts c.args.source.now in
+    let step = c.args.step.now in
+    let stands = known f c.args.self.now step.inverter step.size c.in_ok-knows.ensures in
+    absurd (withdraw_stands f c.args.self.now step.inverter step.size c.in_err-withdraw.field-0.0 stands.0 stands.1 c.in_err-withdraw.ensures.answer)

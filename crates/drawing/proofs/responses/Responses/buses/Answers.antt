@@ -1,7 +1,7 @@
-use Rattle.std.proofs.Common.{refl, arith}
+use Rattle.std.proofs.Common.{refl}
 use Rattle.drawing.specs.Responses.{entries_of}
 use Rattle.drawing.proofs.responses.Responses.buses.Goals as goal
 
-pub returns : goal.returns
+pub returns-clause-value : goal.returns-clause-value
 unfolding entries_of
-returns c = record { value = refl; few = omega arith }
+returns-clause-value c = refl

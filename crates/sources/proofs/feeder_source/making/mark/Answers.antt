@@ -1,6 +1,5 @@
-use Rattle.std.proofs.Common.{◌≡◌, ◌-◌, false, not, length, get_or, sym, refl, ap, ◌∙◌, subst, arith, length-set}
-use Rattle.std.proofs.lemmas.List.{take_all}
-use Rattle.sources.specs.LineMaking.{first_at, misplaced, Marks}
+use Rattle.std.proofs.Common.{◌-◌, false, not, length, get_or, sym, refl, ◌∙◌, arith, length-set}
+use Rattle.sources.specs.LineMaking.{misplaced}
 use Rattle.sources.proofs.Entries.{first_none, first_more, first_found, marks_none, marks_more, misplaced_told, placed_entry}
 use Rattle.sources.proofs.feeder_source.making.mark.Goals as goal
 
@@ -21,12 +20,4 @@ loop-index-preserved c =
       length-set _ _ _ ∙ c.loop-index.invariant.0,
       first_more c.loop-index.index (misplaced c.args.buses xs) c.loop-index.invariant.1 told,
       marks_more xs c.loop-index.index c.loop-index.marks (omega arith) bus.0 (omega (arith, bus.1, c.requires)) c.loop-index.invariant.0 c.loop-index.invariant.2,
-    )
-
-pub returns : goal.returns
-returns c =
-    let xs = c.args.inverters.now in
-    let same : c.loop-index.index ≡ length xs = omega arith in (
-      ap (λ k. first_at k (misplaced c.args.buses xs)) (sym same) ∙ c.loop-index.invariant.1,
-      subst (λ ys. Marks ys c.loop-index.marks) (take_all c.loop-index.index xs (omega arith)) c.loop-index.invariant.2,
     )

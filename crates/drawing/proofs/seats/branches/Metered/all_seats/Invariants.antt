@@ -1,10 +1,7 @@
-use Rattle.std.proofs.Common.{◌≡◌, ◌+◌, ◌-◌, length, take}
+use Rattle.std.proofs.Common.{◌+◌, ◌-◌, length}
 use Rattle.drawing.specs.Responses.{entries_of}
 use Rattle.drawing.proofs.Listings.{ListedTo}
 use Rattle.drawing.proofs.seats.branches.Metered.all_seats.Given as goal
-
-abbrev pub invariant-loop-metered : goal.invariant-loop-metered
-invariant-loop-metered l = l.seats.items ≡ take l.metered-index l.self.seats.now
 
 abbrev pub invariant-loop-seat : goal.invariant-loop-seat
 invariant-loop-seat l = ListedTo (entries_of l.self.responses.now) l.self.seats.now l.seats.items l.last

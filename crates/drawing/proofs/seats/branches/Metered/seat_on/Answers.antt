@@ -1,11 +1,6 @@
-use Rattle.std.proofs.Common.{arith}
 use Rattle.drawing.specs.Responses.{entries_of}
-use Rattle.drawing.proofs.Reading.{few}
 use Rattle.drawing.proofs.Listings.{seat_on, none_on}
 use Rattle.drawing.proofs.seats.branches.Metered.seat_on.Goals as goal
-
-pub has_inverter-requires : goal.has_inverter-requires
-has_inverter-requires c = record { some = omega arith; few = omega (arith, few c.args.self.now.responses.now) }
 
 pub returns-in_err-distance : goal.returns-in_err-distance
 returns-in_err-distance c = rw c.from_residual.ensures (none_on c.args.last c.args.m c.distance_passed.result c.distance_passed.ensures c.requires.from (entries_of c.args.self.now.responses.now) c.args.self.now.seats.now c.in_err-distance.ensures)

@@ -1,4 +1,4 @@
-use Rattle.std.proofs.Common.{◌≡◌, ◌≤◌, length, Ok, sym, ap, ◌∙◌, arith}
+use Rattle.std.proofs.Common.{◌≡◌, ◌≤◌, length, Ok, sym, ap, ◌∙◌, arith, rules}
 use Rattle.feeder.specs.View.{lines_of}
 use Rattle.sources.specs.LineFacts.{feeder_facts}
 use Rattle.sources.specs.LineMaking.{first_misplaced}
@@ -9,8 +9,10 @@ pub invariant_of-self : goal.invariant_of-self
 invariant_of-self c =
     let count = ap length c.same_lines.ensures in
     let stood = c.in_ok-voltages.ensures in
+    let some : 1 ≤ c.buses-buses.result = search rules in
+    let few : c.buses-buses.result ≤ 64 = search rules in
     record {
-      few = (omega (arith, count, c.buses-buses.ensures), omega (arith, count, c.buses-buses.ensures));
+      few = (omega (arith, count, c.buses-buses.ensures, some), omega (arith, count, c.buses-buses.ensures, few));
       steady = steady_copies c.args.standing.now c.in_ok-voltages.voltages stood.0 stood.1;
     }
 
@@ -21,8 +23,9 @@ returns c =
     let ys = c.args.standing.now in
     let marked = c.in_ok-marks.ensures in
     let stood = c.in_ok-voltages.ensures in
-    let few : length F ≤ 64 = omega arith in
+    let some : 1 ≤ length F = search rules in
+    let few : length F ≤ 64 = search rules in
     let long : length ys ≡ length F = omega arith in
-    let means = ap (λ G. feeder_facts G c.in_ok-marks.marks c.in_ok-voltages.voltages c.new.result.thousandths) c.same_lines.ensures ∙ ap (feeder_facts F c.in_ok-marks.marks c.in_ok-voltages.voltages) c.new.ensures ∙ made_means F xs ys c.in_ok-marks.marks c.in_ok-voltages.voltages few marked.1 stood.1 in
+    let means = ap (λ G. feeder_facts G c.in_ok-marks.marks c.in_ok-voltages.voltages c.new-2.result.thousandths) c.same_lines.ensures ∙ ap (feeder_facts F c.in_ok-marks.marks c.in_ok-voltages.voltages) c.new-2.ensures ∙ made_means F xs ys c.in_ok-marks.marks c.in_ok-voltages.voltages few marked.1 stood.1 in
     let placed = ap (λ n. first_misplaced n xs) (sym c.buses-buses.ensures) ∙ marked.0 in
-    make_accepted F xs ys (omega arith) few placed long stood.0 ∙ ap Ok (sym means)
+    make_accepted F xs ys some few placed long stood.0 ∙ ap Ok (sym means)

@@ -1,6 +1,0 @@
-use Rattle.drawing.specs.Responses.{entries_of}
-use Rattle.drawing.proofs.Branches.{FloorTo}
-use Rattle.drawing.proofs.seats.branches.Metered.floor.Given as goal
-
-abbrev pub invariant-loop-k : goal.invariant-loop-k
-invariant-loop-k l = FloorTo (entries_of l.self.responses.now) l.m l.k l.floor
