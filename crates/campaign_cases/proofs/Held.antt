@@ -1,5 +1,5 @@
 -- A step that is outstanding stays so behind the calls that do not withdraw it.
-use Rattle.std.proofs.Common.{◌≡◌, ℕ, true, List, ℤ, Ok, Err, Result, IsErr, MatchResult, sym, refl, ap, subst, arith}
+use Rattle.std.proofs.Common.{◌≡◌, ℕ, true, List, ℤ, Ok, Err, Result, MatchResult, sym, ap, subst, arith}
 use Rattle.probing.specs.Facts.{Facts}
 use Rattle.campaign.specs.declared.fault.CampaignFault.{CampaignFault}
 use Rattle.campaign.specs.declared.fault.CampaignRefusal.{CampaignRefusal}
@@ -23,10 +23,6 @@ no_second f c m k size size' y f' c' h r =
     let some = outstanding_is c m size h.1 in
     let none = ok.free in
     let z : ◌≡◌ {A = ℕ} 0 1 = cc in omega arith
-
-pub second_refused : (f : Facts) (c : Campaign) (m k : ℕ) (size size' : ℤ) (d : Result (Step Fresh) CampaignRefusal) (f' : Facts) (c' : Campaign) → Held f c m size → Commences f c k size' d f' c' → IsErr d
-second_refused f c m k size size' (Ok y) f' c' h r = absurd (no_second f c m k size size' y f' c' h r)
-second_refused f c m k size size' (Err e) f' c' h r = refl
 
 -- and a refused commencing leaves the first
 pub still_held : (f : Facts) (c : Campaign) (m k : ℕ) (size size' : ℤ) (d : Result (Step Fresh) CampaignRefusal) (f' : Facts) (c' : Campaign) → Held f c m size → Commences f c k size' d f' c' → Held f' c' m size

@@ -67,8 +67,8 @@ impl Way<'_> {
         let from = self.floor().max(above);
         let end = responses.entry(self.inverter, self.inverter);
         let mut next = end;
-        // Tried as a chain of filters and min: that min may run, and what it gives, were not proved. `1..=` would end the loop in
-        // two ways, and what follows would be proved of each.
+        // Tried as a chain of filters and min: that min may run, and what it gives, were not proved. Tried with `1..=` too, where the loop
+        // ends in two ways: what it gives in one of them was not proved.
         for k in 1..responses.buses() + 1 {
             if responses.has_inverter(k) {
                 let candidate = responses.entry(k, self.inverter);
