@@ -1,14 +1,10 @@
 -- A drawing of a moderate campaign has one answer.
-use Rattle.std.proofs.Common.{◌≡◌, ℕ, Some, None, Ok, Err, Option, Result, sym, refl, ap, ◌∙◌, arith}
-use Rattle.feeder.specs.declared.kind.Kind.{Kind}
-use Rattle.feeder.specs.declared.map.Map.{Map}
+use Rattle.std.proofs.Common.{◌≡◌, ℕ, Some, None, Err, Option, sym, refl, ap, ◌∙◌, arith}
 use Rattle.feeder.specs.View.{lines_of}
 use Rattle.feeder.proofs.Alone.{drawn_alone}
 use Rattle.feeder.proofs.SameMaps.{maps_are_their_lines}
-use Rattle.campaign.specs.declared.drawing_fault.DrawingFault.{DrawingFault}
 use Rattle.campaign.specs.declared.drawing_fault.DrawingFault.TheVariants.{ColumnMissing, InverterMissing}
-use Rattle.campaign.specs.declared.state.Campaign.{Campaign}
-use Rattle.campaign.specs.Drawings.{columns_of, missing, bare, Moderate, Draws, incomplete, unequipped, nowhere, drawn, DrawingsAreAlone}
+use Rattle.campaign.specs.Drawings.{columns_of, incomplete, unequipped, nowhere, drawn, DrawingsAreAlone}
 
 -- what is missing is one bus
 one : {o : Option ℕ} {m n : ℕ} → o ≡ Some m → o ≡ Some n → m ≡ n

@@ -183,7 +183,7 @@ fn quotients(
     requires { buses ≤ 64 }
     ensures { result ≡ divided_of buses (difference before.now after.now) size }
 {
-    // A loop, since the fault is the lowest bus's: try_from_fn does not promise that its error is the first one.
+    // The fault is the lowest bus's.
     let mut responses = [0; MOST_METERED];
     for (index, response) in responses[..buses].iter_mut().enumerate() {
         *response = quotient(before[index], after[index], size).ok_or(CampaignFault::NotMultiple {

@@ -6,7 +6,6 @@ use feeder::MOST_METERED;
 // What was collected for an inverter: the response of each bus, bus n at n - 1.
 #[derive(Clone, Copy, PartialEq, Eq, Debug)]
 pub struct Column {
-    // An array and no `ArrayVec`: how many places are used is said once, by the campaign.
     pub(crate) responses: [i64; MOST_METERED],
 }
 
@@ -21,13 +20,12 @@ pub struct Outstanding {
 // that step, and the columns that were collected. What is of bus n stands at n - 1.
 #[derive(Drop)]
 pub struct Campaign {
-    // How many of the fixed places are used, by each of the arrays: `ArrayVec`s would each hold this number again.
+    // How many of the places of each array are used.
     pub(crate) buses: usize,
     // Not in the columns: a source's inverters are compared with these as a whole.
     pub(crate) inverters: [bool; MOST_METERED],
     pub(crate) outstanding: Option<Outstanding>,
-    // Not in the outstanding step: by the law of histories that is known by its inverter and size alone, so with the
-    // readings in it each of its clauses would have to take them off again, which is no plainer.
+    // The readings at the commencing of the outstanding step, which is known by its inverter and size alone.
     pub(crate) before: [i64; MOST_METERED],
     pub(crate) columns: [Option<Column>; MOST_METERED],
 }

@@ -54,8 +54,7 @@ pub(crate) fn three(rt: &impl Abort, map: &Map) -> Result<(), Fail> {
     Ok(())
 }
 
-// Whether a fault is told with this layer, number and place: three arguments, since a literal of the struct at each call would be longer.
-// The other crates of cases compare refusals alike: one helper for all would need a crate of its own.
+// Whether a fault is told with this layer, number and place.
 pub(crate) fn told<E: Into<Refusal>>(
     rt: &impl Abort,
     fault: E,

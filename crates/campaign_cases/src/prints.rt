@@ -62,6 +62,12 @@ fn refusals_of_each_layer(rt: HostRuntime) {
     prints(
         &rt,
         Kind::Complete,
+        b"probe,step,1\r\n1,0.100,\r\n",
+        b"layer,refusal,place\r\nsource,12,1\r\n",
+    );
+    prints(
+        &rt,
+        Kind::Complete,
         b"probe,step,1\r\n1,1.000,-0.000005",
         b"layer,refusal,place\r\ndrawing,18,0\r\n",
     );

@@ -23,7 +23,6 @@ impl Seating<'_> {
         requires { Seated (entries_of self.now.responses.now) self.now.seats.now }
         ensures { Wires (entries_of self.now.responses.now) self.now.seats.now result.items }
     {
-        // A `for`: `collect` takes an allocator, and `extend` answers with an error that can't come here.
         let mut lines = ArrayVec::new();
         for bus in 1..self.seats.len() {
             lines.push(self.line(bus));
@@ -31,8 +30,7 @@ impl Seating<'_> {
         lines
     }
 
-    // The line of a bus. Here and below the bounds of a bus stand in clauses: a type for a number that is a place in the seats would
-    // be no plainer.
+    // The line of a bus.
     fn line(&self, bus: usize) -> Line
         requires seated { Seated (entries_of self.now.responses.now) self.now.seats.now }
         requires some { 0 < bus }
@@ -55,7 +53,6 @@ impl Seating<'_> {
     {
         let seat = self.seats[bus];
         let mut parent = 0;
-        // Tried as a chain of filter and max_by_key: what it gives was not proved.
         for other in 1..self.seats.len() {
             let upper = self.seats[other];
             if self.seats[parent].distance < upper.distance

@@ -6,7 +6,7 @@ use Rattle.feeder.specs.declared.line.Line.{Line}
 use Rattle.feeder.specs.declared.kind.Kind.{Kind}
 use Rattle.feeder.specs.declared.kind.Kind.TheVariants.{Complete, Reduced}
 use Rattle.feeder.specs.Feeder.{Feeder, Bus, OnWay, blank, line_of, parent_of, resistance_of, distance}
-use Rattle.feeder.specs.Table.{Table, Inverter, Yields, OfKind, EndsHaveInverters, Pairs, LowestBelow, Drawn, AnswersAreAlone, CompleteFeedersAreAlone}
+use Rattle.feeder.specs.Table.{Table, Inverter, OfKind, EndsHaveInverters, Pairs, LowestBelow, Drawn, AnswersAreAlone, CompleteFeedersAreAlone}
 use Rattle.feeder.proofs.Ways.{dec_on}
 use Rattle.feeder.proofs.Inverters.{Greatest, greatest}
 use Rattle.feeder.proofs.Feeders.{is_way}

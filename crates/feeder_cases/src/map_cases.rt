@@ -111,7 +111,6 @@ fn responses_of_a_tree(rt: HostRuntime) -> Result<(), Fail> {
 // Every bus hangs on the substation, bus b with resistance 10 b.
 #[test]
 fn a_star_of_64(rt: HostRuntime) -> Result<(), Fail> {
-    // A place of 64 fits, so try_from would be no plainer.
     let lines: [Line; 64] = array::from_fn(|i| line(0, 10 * (i as u32 + 1)));
     let map = Map::from_lines(64, &lines)?;
     assert_eq!(rt; map.distance(64), Some(640));

@@ -18,7 +18,6 @@ fn single(resistance: u32) -> Result<Map, Fault> {
 }
 
 // Whether a call is refused with this number at this place.
-// The other crates of cases compare refusals alike: one helper for all would need a crate of its own.
 fn told<T: Drop>(
     rt: &impl Abort,
     answer: Result<T, FileFault>,
@@ -150,6 +149,8 @@ fn other_ways_to_write_a_record(rt: HostRuntime) -> Result<(), Fail> {
 #[test]
 fn headers(rt: HostRuntime) -> Result<(), Fail> {
     refused(&rt, b"", 3, 0)?;
+    refused(&rt, b"\r\n", 3, 0)?;
+    refused(&rt, b"\"\"", 3, 0)?;
     refused(&rt, b"Bus,parent,r\r\n1,0,0.1", 3, 0)?;
     refused(&rt, b"bus,up,r\r\n1,0,0.1", 3, 4)?;
     refused(&rt, b"bus,parent,x\r\n1,0,0.1", 3, 11)?;

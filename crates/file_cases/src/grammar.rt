@@ -2,8 +2,11 @@ use rfc4180::{Fault, Field, Reader, Record};
 use std::process::Abort;
 use std::test::Fail;
 
+// How many fields the records of these cases keep: more than most of them have.
+const KEPT: usize = 4;
+
 // The next record of a file.
-fn next<'a>(reader: &mut Reader<'a>) -> Result<Record<'a>, Fail> {
+fn next<'a>(reader: &mut Reader<'a, KEPT>) -> Result<Record<'a, KEPT>, Fail> {
     Ok(reader.next().ok_or("no record")?)
 }
 
@@ -18,14 +21,15 @@ fn quoted(bytes: &[u8], at: usize) -> Field<'_> {
 }
 
 // Whether a record has these fields and no more.
-fn has(rt: &impl Abort, record: Record<'_>, fields: &[Field<'_>]) {
-    assert!(rt; record.iter().eq(fields.iter().copied()));
+fn has(rt: &impl Abort, record: &Record<'_, KEPT>, fields: &[Field<'_>]) {
+    assert_eq!(rt; record.count(), fields.len());
+    assert!(rt; record.fields() == fields);
 }
 
 // Whether the next record has three plain fields of three bytes each. Its place is a u8, since the type keeps the sums in range.
 fn three(
     rt: &impl Abort,
-    reader: &mut Reader<'_>,
+    reader: &mut Reader<'_, KEPT>,
     texts: [&[u8]; 3],
     place: u8,
 ) -> Result<(), Fail> {
@@ -35,7 +39,7 @@ fn three(
         plain(texts[1], start + 4),
         plain(texts[2], start + 8),
     ];
-    has(rt, next(reader)?, &fields);
+    has(rt, &next(reader)?, &fields);
     Ok(())
 }
 
@@ -46,8 +50,11 @@ const TWO: [&[u8]; 3] = [b"zzz", b"yyy", b"xxx"];
 #[test]
 fn each_record_on_a_line_of_its_own(rt: HostRuntime) -> Result<(), Fail> {
     let mut reader = Reader::open(b"aaa,bbb,ccc\r\nzzz,yyy,xxx\r\n")?;
+    assert_eq!(rt; reader.records(), 2);
     three(&rt, &mut reader, ONE, 0)?;
+    assert_eq!(rt; reader.records(), 1);
     three(&rt, &mut reader, TWO, 13)?;
+    assert_eq!(rt; reader.records(), 0);
     assert!(rt; reader.next().is_none());
     Ok(())
 }
@@ -67,11 +74,11 @@ fn a_header_may_come_first(rt: HostRuntime) -> Result<(), Fail> {
         b"field_name,field_name,field_name\r\naaa,bbb,ccc\r\nzzz,yyy,xxx\r\n",
     )?;
     let header = next(&mut reader)?;
-    assert_eq!(rt; header.fields(), 3);
+    assert_eq!(rt; header.count(), 3);
     assert_eq!(rt; header.end(), 32);
     has(
         &rt,
-        header,
+        &header,
         &[
             plain(b"field_name", 0),
             plain(b"field_name", 11),
@@ -98,7 +105,7 @@ fn fields_may_be_quoted(rt: HostRuntime) -> Result<(), Fail> {
     let first = next(&mut reader)?;
     has(
         &rt,
-        first,
+        &first,
         &[quoted(b"aaa", 0), quoted(b"bbb", 6), quoted(b"ccc", 12)],
     );
     three(&rt, &mut reader, TWO, 19)?;
@@ -112,7 +119,7 @@ fn quotes_hold_line_ends(rt: HostRuntime) -> Result<(), Fail> {
     let first = next(&mut reader)?;
     has(
         &rt,
-        first,
+        &first,
         &[quoted(b"aaa", 0), quoted(b"b\r\nbb", 6), quoted(b"ccc", 14)],
     );
     three(&rt, &mut reader, TWO, 21)?;
@@ -126,7 +133,7 @@ fn a_held_quote_stands_twice(rt: HostRuntime) -> Result<(), Fail> {
     let first = next(&mut reader)?;
     has(
         &rt,
-        first,
+        &first,
         &[quoted(b"aaa", 0), quoted(b"b\"\"bb", 6), quoted(b"ccc", 14)],
     );
     assert!(rt; reader.next().is_none());
@@ -137,8 +144,8 @@ fn a_held_quote_stands_twice(rt: HostRuntime) -> Result<(), Fail> {
 fn an_empty_file_is_one_blank(rt: HostRuntime) -> Result<(), Fail> {
     let mut reader = Reader::open(b"")?;
     let first = next(&mut reader)?;
-    assert_eq!(rt; first.fields(), 1);
-    has(&rt, first, &[Field::Blank { at: 0 }]);
+    assert_eq!(rt; first.count(), 1);
+    has(&rt, &first, &[Field::Blank { at: 0 }]);
     assert!(rt; reader.next().is_none());
     Ok(())
 }
@@ -147,10 +154,32 @@ fn an_empty_file_is_one_blank(rt: HostRuntime) -> Result<(), Fail> {
 fn blanks_and_empty_quotes(rt: HostRuntime) -> Result<(), Fail> {
     let mut reader = Reader::open(b",\"\"\r\n\r\n")?;
     let first = next(&mut reader)?;
-    has(&rt, first, &[Field::Blank { at: 0 }, quoted(b"", 1)]);
+    has(&rt, &first, &[Field::Blank { at: 0 }, quoted(b"", 1)]);
     let second = next(&mut reader)?;
     assert_eq!(rt; second.start(), 5);
-    has(&rt, second, &[Field::Blank { at: 5 }]);
+    has(&rt, &second, &[Field::Blank { at: 5 }]);
+    assert!(rt; reader.next().is_none());
+    Ok(())
+}
+
+#[test]
+fn a_record_keeps_its_first_fields(rt: HostRuntime) -> Result<(), Fail> {
+    let mut reader = Reader::open(b"a,b,c,d,e,f\r\ng")?;
+    let first = next(&mut reader)?;
+    assert_eq!(rt; first.count(), 6);
+    assert_eq!(rt; first.end(), 11);
+    assert!(rt;
+        first.fields()
+            == [
+                plain(b"a", 0),
+                plain(b"b", 2),
+                plain(b"c", 4),
+                plain(b"d", 6)
+            ]
+            .as_slice()
+    );
+    let second = next(&mut reader)?;
+    has(&rt, &second, &[plain(b"g", 13)]);
     assert!(rt; reader.next().is_none());
     Ok(())
 }

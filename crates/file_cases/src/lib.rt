@@ -1,4 +1,4 @@
-// Cases worked by hand for files: what is read, and which refusal is given at which place.
+//! Cases worked by hand for files: what is read, and which refusal is given at which place.
 
 #![tactic(auto)]
 
@@ -6,5 +6,7 @@
 mod decimals;
 #[cfg(test)]
 mod grammar;
+#[cfg(test)]
+mod inputs;
 #[cfg(test)]
 mod responses;

@@ -4,10 +4,10 @@ use std::alloc::{AllocError, Global};
 use std::process::Abort;
 use std::test::Fail;
 
-// Whether reading refuses with this number at this place, and leaves the table as it was.
-// The other crates of cases compare refusals alike: one helper for all would need a crate of its own.
+// Whether reading refuses with this number at this place, and leaves a table that is filled already as it was, whole.
 fn refused(rt: &impl Abort, file: &[u8], number: u8, place: usize) -> Result<(), Fail> {
-    let mut table = Table::new();
+    let filled = read(b"probe,step,1,2\r\n2,0.1,0.0002,")?;
+    let mut table = filled;
     let fault = table.read(file).err().ok_or("accepted")?;
     assert_eq!(rt;
         Refusal::from(fault),
@@ -17,15 +17,15 @@ fn refused(rt: &impl Abort, file: &[u8], number: u8, place: usize) -> Result<(),
             place
         }
     );
-    assert_eq!(rt; table.buses, 1);
+    assert!(rt; table == filled);
     Ok(())
 }
 
-// The step and the first two responses of inverter m.
+// The step of inverter m, and the responses of the first two buses to it.
 fn probed(rt: &impl Abort, table: &Table, m: usize) -> Result<(i64, i64, i64), Fail> {
     assert!(rt; (1..=64).contains(&m));
     let probe = table.probes[m - 1].ok_or("not probed")?;
-    Ok((probe.step, probe.responses[0], probe.responses[1]))
+    Ok((probe.step, table.response(1, m), table.response(2, m)))
 }
 
 fn read(file: &[u8]) -> Result<Table, Fail> {
@@ -43,7 +43,7 @@ fn a_file_of_three_buses(rt: HostRuntime) -> Result<(), Fail> {
     assert_eq!(rt; probed(&rt, &table, 2)?, (-500, 300, 500));
     assert_eq!(rt; probed(&rt, &table, 3)?, (250, 300, 300));
     assert!(rt; table.probes[0].is_none());
-    assert!(rt; !table.mute[..3].contains(&true));
+    assert!(rt; !table.is_mute(1) && !table.is_mute(2) && !table.is_mute(3));
     Ok(())
 }
 
@@ -51,7 +51,25 @@ fn a_file_of_three_buses(rt: HostRuntime) -> Result<(), Fail> {
 fn quoted_numbers_and_blanks(rt: HostRuntime) -> Result<(), Fail> {
     let table = read(b"\"probe\",\"step\",\"1\",\"2\"\r\n\"1\",\"-1.000\",,\"-0.5\"")?;
     assert_eq!(rt; probed(&rt, &table, 1)?, (-1000, 0, 500_000));
-    assert!(rt; table.mute[0] && !table.mute[1]);
+    assert!(rt; table.is_mute(1) && !table.is_mute(2));
+    let probe = table.probes[0].ok_or("not probed")?;
+    assert_eq!(rt; probe.changes[0], None);
+    assert_eq!(rt; probe.changes[1], Some(-500_000_000));
+    Ok(())
+}
+
+// What a file gives is kept: which record is blank, and that its meter is mute for every inverter.
+#[test]
+fn a_blank_in_one_record(rt: HostRuntime) -> Result<(), Fail> {
+    let table = read(b"probe,step,1,2\r\n1,0.1,0.00003,\r\n2,-0.1,-0.00003,-0.00005\r\n")?;
+    assert!(rt; !table.is_mute(1) && table.is_mute(2) && !table.is_mute(3) && !table.is_mute(0));
+    assert_eq!(rt; probed(&rt, &table, 1)?, (100, 300, 0));
+    assert_eq!(rt; probed(&rt, &table, 2)?, (-100, 300, 500));
+    let first = table.probes[0].ok_or("not probed")?;
+    assert_eq!(rt; first.changes[1], None);
+    let second = table.probes[1].ok_or("not probed")?;
+    assert_eq!(rt; second.changes[1], Some(-50_000));
+    assert_eq!(rt; table.response(1, 3), 0);
     Ok(())
 }
 
@@ -59,6 +77,8 @@ fn quoted_numbers_and_blanks(rt: HostRuntime) -> Result<(), Fail> {
 fn headers(rt: HostRuntime) -> Result<(), Fail> {
     assert_eq!(rt; read(b"probe,step,1\r\n")?.buses, 1);
     refused(&rt, b"", 3, 0)?;
+    refused(&rt, b"\r\n", 3, 0)?;
+    refused(&rt, b"\"\"", 3, 0)?;
     refused(&rt, b"probe", 3, 5)?;
     refused(&rt, b"probe,step", 3, 10)?;
     refused(&rt, b"probe,step\r\n", 3, 10)?;
@@ -108,6 +128,22 @@ fn changes(rt: HostRuntime) -> Result<(), Fail> {
         (1, -1_000_000, 0)
     );
     refused(&rt, b"probe,step,1,2\r\n1,0.1,x,y", 5, 22)
+}
+
+// The first rule that is broken counts: the record's count of fields, and then its fields from the left.
+#[test]
+fn two_faults_in_one_record(rt: HostRuntime) -> Result<(), Fail> {
+    refused(&rt, b"probe,step,1\r\n2,0,0", 6, 14)?;
+    refused(&rt, b"probe,step,1\r\nx,0.1", 4, 14)?;
+    refused(&rt, b"probe,step,1\r\n1,0,x", 7, 16)?;
+    refused(&rt, b"probe,step,1,2\r\n1,0.002,0.000000001,x", 8, 24)
+}
+
+// And the record before another.
+#[test]
+fn faults_in_two_records(rt: HostRuntime) -> Result<(), Fail> {
+    refused(&rt, b"probe,step,1\r\n1,0.002,0.000000001\r\n1", 8, 22)?;
+    refused(&rt, b"probe,step,1\r\n1,0.1\r\nx,0.1,0", 4, 14)
 }
 
 #[test]

@@ -1,8 +1,10 @@
-pub mod Clash
 pub mod Texts
 pub mod Names
-pub mod Changes
-pub mod Added
-pub mod Bounds
-pub mod Told
+pub mod Keeping
+pub mod Headers
+pub mod Entries
+pub mod Records
+pub mod Files
+pub mod Tellings
 pub mod Outcomes
+pub mod Bounds

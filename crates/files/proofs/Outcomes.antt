@@ -1,5 +1,7 @@
 -- What reading a response file answers, from what opening it and reading its records answer.
-use Rattle.std.proofs.Common.{◌≡◌, ℕ, ◌≤◌, true, List, [], ◌∷◌, Ok, Err, Result, sym, refl, ap, ◌∙◌, subst}
+use Rattle.std.proofs.Common.{◌≡◌, ℕ, ◌≤◌, true, List, length, drop, Ok, Err, Result, sym, refl, ap, ◌∙◌, subst, arith}
+use Rattle.refusals.specs.Checks.{Fills}
+use Rattle.refusals.proofs.Checks.{clash}
 use Rattle.rfc4180.specs.declared.fault.Fault.{Fault}
 use Rattle.rfc4180.specs.declared.fault.Fault.TheVariants.{TooLong, Syntax}
 use Rattle.rfc4180.specs.declared.reader.Reader.{Reader}
@@ -7,92 +9,80 @@ use Rattle.rfc4180.specs.Grammar.{File}
 use Rattle.rfc4180.specs.Places.{Piece, Parse, records_of}
 use Rattle.rfc4180.specs.Opening.{Opening}
 use Rattle.rfc4180.specs.Views.{left}
-use Rattle.files.proofs.Clash.{clash}
+use Rattle.rfc4180.proofs.Unique.{unique}
+use Rattle.rfc4180.proofs.Possible.{parsed, one_impossible, records_some}
 use Rattle.files.specs.declared.fault.FileFault.{FileFault}
 use Rattle.files.specs.declared.fault.FileFault.TheVariants.{Bytes}
 use Rattle.files.specs.declared.table.Table.{Table}
-use Rattle.files.specs.Responses.{Outcome, Reading, long, broken, read, mute_of, Noted, FileTold}
 use Rattle.files.specs.Rows.{table_of}
-use Rattle.files.specs.Sound.{Sound}
-use Rattle.files.proofs.Bounds.{sound}
-use Rattle.files.proofs.Told.{told}
+use Rattle.files.specs.Tables.{mute_of}
+use Rattle.files.specs.Responses.{Holds, IsFileOf, Reading, long, broken, faulty, sound, OutcomesAreUnique, Tells}
+use Rattle.files.proofs.Files.{file_ok, file_err, fault_file, file_right}
+use Rattle.files.proofs.Tellings.{tells, file_tells}
 
-pub unopened : (bytes : List ℕ) (t : Table) (fault : Fault) → Opening bytes (Err fault) → Reading bytes t t (Err (Bytes fault))
-unopened bytes t TooLong h = long h (refl, refl)
-unopened bytes t (Syntax i) h = broken i h.0 h.1 (refl, refl)
+-- From what the code found.
 
-opened : (bytes : List ℕ) (old new : Table) (r : Result (Unit {0}) FileFault) (reader : Reader) → Opening bytes (Ok reader) → Outcome old new r (table_of (left reader)) → Reading bytes old new r
-opened bytes old new r reader h out =
-    let P : List (List Piece) → Type 0 = λ records. Outcome old new r (table_of records) in
-    read h.1.file h.0 h.1.parse (subst P h.1.records out)
+pub unopened : (bytes : List ℕ) (t : Table) (fault : Fault) → Opening {kept = 67} bytes (Err fault) → Fills (Reading bytes) t t (Err (Bytes fault))
+unopened bytes t TooLong h = (long h refl, refl)
+unopened bytes t (Syntax i) h = (broken i h.0 h.1 refl, refl)
 
-pub unread : (bytes : List ℕ) (t : Table) (reader : Reader) (fault : FileFault) → Opening bytes (Ok reader) → Err fault ≡ table_of (left reader) → Reading bytes t t (Err fault)
+pub unread : (bytes : List ℕ) (t : Table) (reader : Reader 67) (fault : FileFault) → Opening bytes (Ok reader) → Err fault ≡ table_of (left reader) → Fills (Reading bytes) t t (Err fault)
 unread bytes t reader fault h e =
-    let P : Result Table FileFault → Type 0 = Outcome t t (Err fault) in
-    opened bytes t t (Err fault) reader h (subst P e (refl, refl))
+    let file = h.1.file in
+    let found : table_of (records_of file) ≡ Err fault = ap table_of (sym h.1.records) ∙ sym e in
+    (faulty file fault h.0 h.1.parse (file_err (records_of file) fault (records_some file) found) refl, refl)
 
-pub filled : (bytes : List ℕ) (old new : Table) (reader : Reader) → Opening bytes (Ok reader) → Ok new ≡ table_of (left reader) → Reading bytes old new (Ok tt)
-filled bytes old new reader h e =
-    let P : Result Table FileFault → Type 0 = Outcome old new (Ok tt) in
-    opened bytes old new (Ok tt) reader h (subst P e (refl, refl))
+pub filled : (bytes : List ℕ) (new : Table) (reader : Reader 67) → Opening bytes (Ok reader) → Ok new ≡ table_of (left reader) → Reading bytes (Ok new)
+filled bytes new reader h e =
+    let file = h.1.file in
+    let found : table_of (records_of file) ≡ Ok new = ap table_of (sym h.1.records) ∙ sym e in
+    sound file new h.0 h.1.parse (file_ok (records_of file) new found) refl
 
--- an accepted table holds what the records of the file say
-pub told_of : (bytes : List ℕ) (new : Table) (reader : Reader) → Opening bytes (Ok reader) → Ok new ≡ table_of (left reader) → (f : File) → Parse f bytes → FileTold new (records_of f)
-told_of bytes new reader h e f parse =
-    told (records_of f) new (ap (λ (g : File). table_of (records_of g)) (h.1.only f parse) ∙ sym (ap table_of h.1.records) ∙ sym e)
+-- a file's outcome is that of checking its records one after the other
+short_outcome : (bytes : List ℕ) (r : Result Table FileFault) → length bytes ≤ 65536 → Reading bytes r → (f : File) → Parse f bytes → r ≡ table_of (records_of f)
+short_outcome bytes r few (long h e) f parse = absurd (omega (arith, h, few))
+short_outcome bytes r few (broken i h bad e) f parse = absurd (parsed bytes f i parse bad)
+short_outcome bytes r few (faulty g fault h other first e) f parse =
+    e ∙ sym (fault_file (records_of g) fault first) ∙ ap (λ (x : File). table_of (records_of x)) (unique g f bytes other parse)
+short_outcome bytes r few (sound g t h other file e) f parse =
+    e ∙ sym (file_right (records_of g) t file) ∙ ap (λ (x : File). table_of (records_of x)) (unique g f bytes other parse)
 
-never : {A : Type 0} (u : Unit {0}) (fault : FileFault) → ◌≡◌ {A = Result (Unit {0}) FileFault} (Ok u) (Err fault) → A
-never u fault e = clash cc
+pub outcomes_are_unique : OutcomesAreUnique
+outcomes_are_unique bytes a b (long h e) (long k f) = e ∙ sym f
+outcomes_are_unique bytes a b (long h e) (broken j k bad f) = absurd (omega (arith, h, k))
+outcomes_are_unique bytes a b (long h e) (faulty g fault k parse first f) = absurd (omega (arith, h, k))
+outcomes_are_unique bytes a b (long h e) (sound g t k parse file f) = absurd (omega (arith, h, k))
+outcomes_are_unique bytes a b (broken i h bad e) (long k f) = absurd (omega (arith, h, k))
+outcomes_are_unique bytes a b (broken i h bad e) (broken j k worse f) = e ∙ ap (λ n. Err (Bytes (Syntax n))) (one_impossible bytes i j bad worse) ∙ sym f
+outcomes_are_unique bytes a b (broken i h bad e) (faulty g fault k parse first f) = absurd (parsed bytes g i parse bad)
+outcomes_are_unique bytes a b (broken i h bad e) (sound g t k parse file f) = absurd (parsed bytes g i parse bad)
+outcomes_are_unique bytes a b (faulty g fault h parse first e) other =
+    let own : Reading bytes a = faulty g fault h parse first e in
+    short_outcome bytes a h own g parse ∙ sym (short_outcome bytes b h other g parse)
+outcomes_are_unique bytes a b (sound g t h parse file e) other =
+    let own : Reading bytes a = sound g t h parse file e in
+    short_outcome bytes a h own g parse ∙ sym (short_outcome bytes b h other g parse)
 
--- an accepted table is within its bounds
-pub reading_sound : (bytes : List ℕ) (old new : Table) (u : Unit {0}) → Reading bytes old new (Ok u) → Sound new
-reading_sound bytes old new u (long h out) = never u _ out.0
-reading_sound bytes old new u (broken i h k out) = never u _ out.0
-reading_sound bytes old new u (read f h parse out) = go (table_of (records_of f)) refl out
-  where
-    go : (o : Result Table FileFault) → table_of (records_of f) ≡ o → Outcome old new (Ok u) o → Sound new
-    go (Ok table) e out = subst Sound (sym out.1) (sound (records_of f) table e)
-    go (Err fault) e out = never u fault out.0
+-- Of an accepted table.
 
--- a refusal leaves the place as it was
-pub reading_refused : (bytes : List ℕ) (old new : Table) (fault : FileFault) → Reading bytes old new (Err fault) → Reading bytes old old (Err fault)
-reading_refused bytes old new fault (long h out) = long h (out.0, refl)
-reading_refused bytes old new fault (broken i h k out) = broken i h k (out.0, refl)
-reading_refused bytes old new fault (read f h parse out) = read f h parse (go (table_of (records_of f)) out)
-  where
-    go : (o : Result Table FileFault) → Outcome old new (Err fault) o → Outcome old old (Err fault) o
-    go (Ok table) out = never tt fault (sym out.0)
-    go (Err other) out = (out.0, refl)
+same_ok : {T E : Type 0} {x y : T} → ◌≡◌ {A = Result T E} (Ok x) (Ok y) → x ≡ y
+same_ok e = cc
 
--- what was read does not depend on what the place held
-pub reading_over : (bytes : List ℕ) (old new t : Table) (u : Unit {0}) → Reading bytes old new (Ok u) → Reading bytes t new (Ok u)
-reading_over bytes old new t u (long h out) = never u _ out.0
-reading_over bytes old new t u (broken i h k out) = never u _ out.0
-reading_over bytes old new t u (read f h parse out) = read f h parse (go (table_of (records_of f)) out)
-  where
-    go : (o : Result Table FileFault) → Outcome old new (Ok u) o → Outcome t new (Ok u) o
-    go (Ok table) out = out
-    go (Err fault) out = never u fault out.0
+-- the file that it is read from, of which nothing is wrong
+pub accepted : (bytes : List ℕ) (t : Table) → Reading bytes (Ok t) → (f : File) × Parse f bytes × IsFileOf (records_of f) t
+accepted bytes t (long h e) = clash cc
+accepted bytes t (broken i h bad e) = clash cc
+accepted bytes t (faulty f fault h parse first e) = clash cc
+accepted bytes t (sound f u h parse file e) = (f, parse, subst (IsFileOf (records_of f)) (sym (same_ok e)) file)
 
-pub refused_over : (bytes : List ℕ) (old new t : Table) (fault : FileFault) → Reading bytes old new (Err fault) → Reading bytes t t (Err fault)
-refused_over bytes old new t fault (long h out) = long h (out.0, refl)
-refused_over bytes old new t fault (broken i h k out) = broken i h k (out.0, refl)
-refused_over bytes old new t fault (read f h parse out) = read f h parse (go (table_of (records_of f)) out)
-  where
-    go : (o : Result Table FileFault) → Outcome old new (Err fault) o → Outcome t t (Err fault) o
-    go (Ok table) out = never tt fault (sym out.0)
-    go (Err other) out = (out.0, refl)
+pub accepted_tells : (bytes : List ℕ) (t : Table) → Reading bytes (Ok t) → (f : File) → Parse f bytes → Tells (drop 1 (records_of f)) t
+accepted_tells bytes t reading f parse =
+    let found = accepted bytes t reading in
+    subst (λ (x : File). Tells (drop 1 (records_of x)) t) (unique found.0 f bytes found.1 parse) (file_tells (records_of found.0) t found.2)
 
 -- a table that was read has an inverter where it has a mute meter
-pub mute_has_inverter : (bytes : List ℕ) (old new : Table) (u : Unit {0}) → Reading bytes old new (Ok u) → (n : ℕ) → 1 ≤ n → mute_of new n ≡ true → (row : List Piece) × Noted new row
-mute_has_inverter bytes old new u (long h out) n l m = never u _ out.0
-mute_has_inverter bytes old new u (broken i h k out) n l m = never u _ out.0
-mute_has_inverter bytes old new u (read f h parse out) n l m = go (table_of (records_of f)) refl out
-  where
-    of : (table : Table) (records : List (List Piece)) → FileTold table records → mute_of table n ≡ true → (row : List Piece) × Noted table row
-    of table [] t m = absurd t
-    of table (header ∷ rows) t m = let found = (t.1.mute n l m).1 in (found.0, t.1.each found.0 found.1)
-
-    go : (o : Result Table FileFault) → table_of (records_of f) ≡ o → Outcome old new (Ok u) o → (row : List Piece) × Noted new row
-    go (Ok table) e out = let P : Table → Type 0 = λ t. (row : List Piece) × Noted t row in subst P (sym out.1) (of table (records_of f) (told (records_of f) table e) (sym (ap (λ (t : Table). mute_of t n) out.1) ∙ m))
-    go (Err fault) e out = never u fault out.0
+pub mute_has_inverter : (bytes : List ℕ) (t : Table) → Reading bytes (Ok t) → (n : ℕ) → mute_of t n ≡ true → (row : List Piece) × Holds t row
+mute_has_inverter bytes t reading n m =
+    let file = (accepted bytes t reading).2 in
+    let found = ((tells file.rows t file.header.most file.right file.table).mute n m).2 in
+    (found.0, file.table.each found.0 found.1)

@@ -8,7 +8,7 @@ use Rattle.rfc4180.specs.Places.{Content, plainly, quotedly, nothing, held}
 use Rattle.rfc4180.specs.Views.{quoteless, text_of}
 use Rattle.units.specs.Decimals.{digit, digits, Decimal, Form, pointed, written, decimal_of}
 use Rattle.units.proofs.Forms.{value_reads}
-use Rattle.files.proofs.Clash.{clash}
+use Rattle.refusals.proofs.Checks.{clash}
 use Rattle.files.specs.Columns.{bus_name, column_name}
 
 pub text_some : (c : Content) (t : List ℕ) → Some t ≡ text_of c → held c ≡ t

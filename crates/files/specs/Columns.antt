@@ -1,10 +1,23 @@
 -- The header of a response file: probe, step, then the bus numbers from 1 on.
-use Rattle.std.specs.Prelude.{ℕ, zero, suc, ◌+◌, ◌-◌, ◌/◌, ◌%◌, Bool, cond, ◌&&◌, List, [], ◌∷◌, Ok, codes, Result, nat_lt}
+use Rattle.std.specs.Prelude.{◌≡◌, ℕ, zero, suc, ◌+◌, ◌-◌, ◌/◌, ◌%◌, ◌≤◌, Bool, cond, ◌&&◌, List, [], ◌∷◌, map, Ok, codes, decimal, Result, nat_lt}
+use Rattle.std.specs.List.{range_with_len}
 use Rattle.std.specs.Str.{bytes_eq}
+use Rattle.refusals.specs.Checks.{need, after}
 use Rattle.rfc4180.specs.Places.{Content, held, Piece, end_of}
 use Rattle.files.specs.declared.fault.FileFault.{FileFault}
 use Rattle.files.specs.declared.fault.FileFault.TheVariants.{Header}
-use Rattle.files.specs.Faults.{need, after}
+
+-- the names of the columns of a file of n buses
+abbrev pub column_names : ℕ → List (List ℕ)
+column_names n = codes "probe" ∷ codes "step" ∷ map decimal (range_with_len 1 n)
+
+-- a header of n buses: the names of its columns, each in its field
+pub record IsHeader (n : ℕ) (header : List Piece) : Type 0 where
+  pub some : 1 ≤ n
+  pub most : n ≤ 64
+  pub names : map (λ p. held p.content) header ≡ column_names n
+
+-- The same, field by field.
 
 -- a bus number below 100 without leading zeros
 abbrev pub bus_name : ℕ → List ℕ

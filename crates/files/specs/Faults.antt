@@ -1,5 +1,5 @@
--- The number, layer and place of each fault of a file, and how checks that run one after the other refuse.
-use Rattle.std.specs.Prelude.{ℕ, Bool, true, false, Some, None, Ok, Err, Option, Result}
+-- The number, layer and place of each fault of a file.
+use Rattle.std.specs.Prelude.{ℕ}
 use Rattle.rfc4180.specs.declared.fault.Fault.TheVariants.{TooLong, Syntax}
 use Rattle.refusals.specs.declared.Layer.TheVariants.{File}
 use Rattle.refusals.specs.declared.Refusal.{Refusal}
@@ -21,18 +21,3 @@ refusal_of (Change at) = in_file 8 at
 refusal_of (MapEntry at) = in_file 19 at
 refusal_of (Unreached bus) = in_file 20 bus
 refusal_of (ShortBuffer needed) = in_file 22 needed
-
--- a check that has to hold before what follows it counts
-abbrev pub need : {A : Type 0} → Bool → FileFault → Result A FileFault → Result A FileFault
-need true fault rest = rest
-need false fault rest = Err fault
-
--- a value that has to be there before what follows it counts
-abbrev pub having : {A B : Type 0} → Option A → FileFault → (A → Result B FileFault) → Result B FileFault
-having None fault rest = Err fault
-having (Some x) fault rest = rest x
-
--- what follows an accepted part
-abbrev pub after : {A B : Type 0} → Result A FileFault → (A → Result B FileFault) → Result B FileFault
-after (Ok x) rest = rest x
-after (Err fault) rest = Err fault

@@ -5,28 +5,28 @@ ghost use Rattle.files.specs.declared.fault.FileFault.TheVariants.{Bytes};
 use refusals::{Layer, Refusal};
 use rfc4180::{Fault, MOST_BYTES};
 
-// Why a file is turned down. `at` is a byte's place from 0.
+/// Why a file is turned down. `at` is a byte's place from 0.
 #[derive(Clone, Copy, PartialEq, Eq, Debug)]
 pub enum FileFault {
-    // The bytes are no file: too many, or against the grammar.
+    /// The bytes are no file: too many, or against the grammar.
     Bytes { fault: Fault },
-    // A header field is wrong or missing.
+    /// A header field is wrong or missing.
     Header { at: usize },
-    // A record has another number of fields than the header.
+    /// A record has another number of fields than the header.
     FieldCount { at: usize },
-    // A field is not of its number form.
+    /// A field is not of its number form.
     Form { at: usize },
-    // An inverter is no bus of the header, or has a record already.
+    /// An inverter is no bus of the header, or has a record already.
     Inverter { at: usize },
-    // A step is 0 or beyond 1,000 either way.
+    /// A step is 0 or beyond 1,000 either way.
     Step { at: usize },
-    // A change is no whole multiple of the step, or the response is beyond 1,000,000 either way.
+    /// A change is no whole multiple of the step, or the response is beyond 1,000,000 either way.
     Change { at: usize },
-    // In a map file, a bus is not the next, a parent is no bus of the file, or a resistance is not 1 to 1,000,000.
+    /// In a map file, a bus is not the next, a parent is no bus of the file, or a resistance is not 1 to 1,000,000.
     MapEntry { at: usize },
-    // In a map file, a bus does not reach the substation, or lies beyond distance 1,000,000.
+    /// In a map file, a bus does not reach the substation, or lies beyond distance 1,000,000.
     Unreached { bus: usize },
-    // A buffer is too short for a text of this length.
+    /// A buffer is too short for a text of this length.
     ShortBuffer { needed: usize },
 }
 

@@ -1,11 +1,10 @@
-// Response files: what they hold, read exactly, or the refusal that names the place.
+//! Response files: what they hold, read exactly, or the refusal that names the place.
 
 #![tactic(auto)]
 
 mod columns;
 mod fault;
 mod numbers;
-mod responses;
 mod rows;
 mod table;
 

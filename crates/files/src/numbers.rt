@@ -1,3 +1,4 @@
+// The numbers of a record, each from its field.
 ghost use Rattle.std.specs.Prelude.{◌≡◌, ◌≤◌, IfOk};
 ghost use Rattle.rfc4180.specs.Places.{held};
 ghost use Rattle.rfc4180.specs.Views.{piece};
@@ -11,14 +12,14 @@ use units::{Scale, bus_number, decimal, response};
 // The largest step either way, in thousandths.
 const MOST_STEP: u64 = 1_000;
 
-// The bus number that a field holds.
+/// The bus number that a field holds: one to four digits; none where it holds no such number.
 pub fn bus_field(field: Field<'_>) -> Option<usize>
     ensures { result ≡ bus_of (held (piece field.entry).content) }
 {
     bus_number(field.text()?)
 }
 
-// The decimal that a field holds.
+/// The decimal that a field holds, in the scale's units; none where it holds no such decimal.
 pub fn decimal_field(field: Field<'_>, scale: Scale) -> Option<i64>
     ensures { result ≡ decimal_of (places_of scale) (held (piece field.entry).content) }
 {
@@ -51,7 +52,7 @@ pub(crate) fn read_step(field: Field<'_>) -> Result<i64, FileFault>
     Ok(step)
 }
 
-// The response that a change and the step give, none for a blank.
+// A record's change, which with its step has to give a response; none for a blank.
 pub(crate) fn read_change(field: Field<'_>, step: i64) -> Result<Option<i64>, FileFault>
     ensures { result ≡ change_of step (piece field.entry) }
 {
@@ -60,6 +61,8 @@ pub(crate) fn read_change(field: Field<'_>, step: i64) -> Result<Option<i64>, Fi
     }
     let at = field.start();
     let change = decimal_field(field, Scale::Billionths).ok_or(FileFault::Form { at })?;
-    let quotient = response(change, step).ok_or(FileFault::Change { at })?;
-    Ok(Some(quotient))
+    if response(change, step).is_none() {
+        return Err(FileFault::Change { at });
+    }
+    Ok(Some(change))
 }

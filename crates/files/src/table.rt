@@ -1,22 +1,113 @@
-use feeder::MOST_METERED;
+ghost use Rattle.std.specs.Prelude.{◌≡◌, OnOk};
+ghost use Rattle.std.specs.List.{list_any};
+ghost use Rattle.refusals.specs.Checks.{Fills};
+ghost use Rattle.files.specs.Responses.{Reading, OutcomesAreUnique, FileTells};
+ghost use Rattle.files.specs.Tables.{probe_of, change_at, response_at, response_in, blank_at, mute_of, empty_table};
 
-// What a response file gives for one inverter: its step in thousandths, and the response of bus n, in millionths, at
-// place n - 1, with 0 where the file has a blank and past the last bus.
+use crate::FileFault;
+use crate::rows::read_table;
+use feeder::MOST_METERED;
+use rfc4180::Reader;
+use units::response;
+
+/// What a response file gives for one inverter.
 #[derive(Clone, Copy, PartialEq, Eq, Debug)]
 pub struct Probe {
+    /// The step, in thousandths of per unit.
     pub step: i64,
-    // An array and no `ArrayVec`: how many places are used is said once, by the table.
-    pub responses: [i64; MOST_METERED],
+    /// The voltage change of bus n, in billionths of per unit, at place n - 1: none where the file has a blank, and none
+    /// past the last bus.
+    pub changes: [Option<i64>; MOST_METERED],
 }
 
-// What a response file holds: the number of metered buses, which meters are mute, bus n at place n - 1, and what was
-// probed, inverter m at place m - 1.
+/// What a response file holds.
 #[derive(Clone, Copy, PartialEq, Eq, Debug)]
 pub struct Table {
-    // How many of the fixed places are used, by each of the arrays. No `ArrayVec`s, which would each hold this number again and could
-    // not be copied as a table is.
+    /// How many buses are metered, 1 to 64 in every table that was read.
     pub buses: usize,
-    // A meter is mute for every inverter, so that no response of one could say it.
-    pub mute: [bool; MOST_METERED],
+    /// What was probed, inverter m at place m - 1: none where no inverter is.
     pub probes: [Option<Probe>; MOST_METERED],
+}
+
+impl Probe {
+    // The change of a bus, counted from 1.
+    fn change(&self, bus: usize) -> Option<i64>
+        ensures { result ≡ change_at self.now bus }
+    {
+        self.changes.get(bus.saturating_sub(1)).copied().flatten()
+    }
+
+    // The response of a bus, counted from 1: its change divided by the step, and 0 for a blank.
+    fn response(&self, bus: usize) -> i64
+        ensures { result ≡ response_at self.now bus }
+    {
+        self.change(bus)
+            .and_then(|change| response(change, self.step))
+            .unwrap_or(0)
+    }
+}
+
+// Whether something was probed that is blank at a bus.
+fn is_blank(probe: &Option<Probe>, bus: usize) -> bool
+    ensures { result ≡ blank_at bus probe.now }
+{
+    probe
+        .as_ref()
+        .is_some_and(|probe| probe.change(bus).is_none())
+}
+
+impl Table {
+    /// A new place: one metered bus and no inverter.
+    pub fn new() -> Table
+        ensures { result ≡ empty_table 1 }
+    {
+        Table::of_buses(1)
+    }
+
+    // A table of so many buses with no inverter.
+    pub(crate) fn of_buses(buses: usize) -> Table
+        ensures { result ≡ empty_table buses }
+    {
+        Table {
+            buses,
+            probes: [None; MOST_METERED],
+        }
+    }
+
+    /// The response of a bus to an inverter, both counted from 1, in millionths of per unit: the change divided by the step,
+    /// and 0 where the file has a blank or no record of the inverter.
+    pub fn response(&self, bus: usize, inverter: usize) -> i64
+        ensures { result ≡ response_in (probe_of self.now inverter) bus }
+    {
+        match self.probes.get(inverter.saturating_sub(1)) {
+            Some(Some(probe)) => probe.response(bus),
+            _ => 0,
+        }
+    }
+
+    // Whether some record is blank at a bus.
+    fn has_blank(&self, bus: usize) -> bool
+        ensures { result ≡ list_any (blank_at bus) self.now.probes }
+    {
+        self.probes.iter().any(|probe| is_blank(probe, bus))
+    }
+
+    /// Whether the meter of a bus is mute: some record is blank there.
+    pub fn is_mute(&self, bus: usize) -> bool
+        ensures { result ≡ mute_of self.now bus }
+    {
+        (1..=self.buses).contains(&bus) && self.has_blank(bus)
+    }
+
+    /// Fills the place with what a response file holds, whatever it held; a refused file leaves it as it was.
+    ///
+    /// The first fault of the file is its refusal: 2, 1 and 3, then record by record 4 and, from the left, 5 to 8.
+    pub fn read(&mut self, file: &[u8]) -> Result<(), FileFault>
+        ensures reads { Fills (Reading file.now) self.old self.new result }
+        ensures one { OutcomesAreUnique }
+        ensures tells { OnOk result (FileTells file.now self.new) }
+    {
+        *self = read_table(Reader::open(file)?)?;
+        Ok(())
+    }
 }

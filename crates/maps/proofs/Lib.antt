@@ -1,6 +1,7 @@
 pub mod Names
-pub mod Facts
+pub mod Headers
+pub mod Records
+pub mod Files
 pub mod Outcomes
 pub mod Trees
 pub mod Trips
-pub mod Said

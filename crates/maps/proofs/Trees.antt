@@ -1,5 +1,5 @@
 -- The text of a map is the text of a file's tree, whose records read back as the map's lines.
-use Rattle.std.proofs.Common.{◌≡◌, ℕ, ◌+◌, ◌<◌, ◌≤◌, Bool, true, ◌&&◌, eqb, leb, List, [], ◌∷◌, ◌++◌, length, nat_abs, Ok, codes, sym, refl, ap, ◌∙◌, arith}
+use Rattle.std.proofs.Common.{◌≡◌, ℕ, ◌+◌, ◌<◌, ◌≤◌, Bool, true, eqb, leb, List, [], ◌∷◌, ◌++◌, length, pos, nat_abs, Ok, codes, sym, refl, ap, ◌∙◌, arith}
 use Rattle.std.specs.List.{AllByRecursion as All}
 use Rattle.std.proofs.lemmas.List.{append_assoc, append-nil, length_push}
 use Rattle.std.proofs.lemmas.Bool.{and_from, le-leb, eq-eqb}
@@ -7,13 +7,14 @@ use Rattle.rfc4180.specs.Grammar.{text_data, every, plain, Record, lone, beside,
 use Rattle.rfc4180.specs.Places.{held, content_of, Piece, place_record, place_records, Parse, records_of}
 use Rattle.units.specs.Decimals.{bus_of, decimal_of}
 use Rattle.feeder.specs.declared.line.Line.{Line}
+use Rattle.refusals.specs.Checks.{need, after}
 use Rattle.files.specs.declared.fault.FileFault.TheVariants.{Form, MapEntry}
-use Rattle.files.specs.Faults.{need, having, after}
-use Rattle.files.specs.Rows.{field_of}
+use Rattle.files.specs.Fields.{field_of}
+use Rattle.files.proofs.Entries.{number_taken}
 use Rattle.printing.specs.Texts.{new_line}
 use Rattle.printing.specs.MapTexts.{short_number, per_unit, lines_text, map_text}
-use Rattle.maps.specs.Lines.{next_of, upper_of, is_resistance, resistance_in, line_in, lines_in, map_lines}
-use Rattle.maps.proofs.Facts.{Wired}
+use Rattle.maps.specs.Lines.{is_next, next_of, upper_of, is_resistance, resistance_in, line_in, lines_in, map_lines}
+use Rattle.maps.proofs.Files.{Wired}
 use Rattle.printing.proofs.Digits.{short_text, per_unit_text, short_back, per_unit_back}
 
 -- The tree.
@@ -80,20 +81,18 @@ held_plain [] = refl
 held_plain (x ∷ xs) = refl
 
 module _ (buses : ℕ) (few : buses < 1000) where
-  next_back : (p : Piece) (b : ℕ) → held p.content ≡ short_number b → b ≤ 64 → next_of b p ≡ Ok tt
+  next_back : (p : Piece) (b : ℕ) → held p.content ≡ short_number b → b ≤ 64 → next_of b p ≡ Ok b
   next_back p b e small =
-      ap (λ o. having o (Form p.start) (λ k. need (eqb k b && leb k 64) (MapEntry p.start) (Ok tt))) (ap bus_of e ∙ short_back b (omega arith))
-      ∙ ap (λ (t : Bool). need t (MapEntry p.start) (Ok tt)) (and_from (eqb b b) (leb b 64) (eq-eqb b b refl) (le-leb b 64 small))
+      number_taken (bus_of (held p.content)) (is_next b) (Form p.start) (MapEntry p.start) b (ap bus_of e ∙ short_back b (omega arith)) (and_from (eqb b b) (leb b 64) (eq-eqb b b refl) (le-leb b 64 small))
 
   upper_back : (p : Piece) (b : ℕ) → held p.content ≡ short_number b → b ≤ buses → upper_of buses p ≡ Ok b
   upper_back p b e small =
-      ap (λ o. having o (Form p.start) (λ k. need (leb k buses) (MapEntry p.start) (Ok k))) (ap bus_of e ∙ short_back b (omega arith))
-      ∙ ap (λ (t : Bool). need t (MapEntry p.start) (Ok b)) (le-leb b buses small)
+      number_taken (bus_of (held p.content)) (λ k. leb k buses) (Form p.start) (MapEntry p.start) b (ap bus_of e ∙ short_back b (omega arith)) (le-leb b buses small)
 
   resistance_back : (p : Piece) (n : ℕ) → held p.content ≡ per_unit n → 1 ≤ n → n ≤ 1000000 → resistance_in p ≡ Ok n
   resistance_back p n e some most =
-      ap (λ o. having o (Form p.start) (λ v. need (is_resistance v) (MapEntry p.start) (Ok (nat_abs v)))) (ap (decimal_of 6) e ∙ per_unit_back n (omega arith))
-      ∙ ap (λ (t : Bool). need t (MapEntry p.start) (Ok n)) (and_from (leb 1 n) (leb n 1000000) (le-leb 1 n some) (le-leb n 1000000 most))
+      ap (λ o. after o (λ v. Ok (nat_abs v)))
+      (number_taken (decimal_of 6 (held p.content)) is_resistance (Form p.start) (MapEntry p.start) (pos n) (ap (decimal_of 6) e ∙ per_unit_back n (omega arith)) (and_from (leb 1 n) (leb n 1000000) (le-leb 1 n some) (le-leb n 1000000 most)))
 
   line_back : (at b : ℕ) (line : Line) → b ≤ 64 → Wired buses line → line_in buses b (place_record at (line_record b line)) ≡ Ok line
   line_back at b line small wired =

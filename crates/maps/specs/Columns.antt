@@ -1,11 +1,21 @@
 -- The header of a map file: bus, parent, r.
-use Rattle.std.specs.Prelude.{ℕ, zero, suc, Bool, ◌&&◌, List, Ok, codes, Result, ◌==◌, nat_lt}
+use Rattle.std.specs.Prelude.{◌≡◌, ℕ, zero, suc, Bool, ◌&&◌, List, [], ◌∷◌, map, Ok, codes, Result, ◌==◌, nat_lt}
 use Rattle.std.specs.Str.{bytes_eq}
+use Rattle.refusals.specs.Checks.{need, after}
 use Rattle.rfc4180.specs.Places.{Content, held, Piece, end_of}
 use Rattle.files.specs.declared.fault.FileFault.{FileFault}
 use Rattle.files.specs.declared.fault.FileFault.TheVariants.{Header}
-use Rattle.files.specs.Faults.{need, after}
 use Rattle.files.specs.Columns.{columns_of}
+
+-- the names of the columns
+abbrev pub map_columns : List (List ℕ)
+map_columns = codes "bus" ∷ codes "parent" ∷ codes "r" ∷ []
+
+-- a header: the names of the columns, each in its field
+abbrev pub IsMapHeader : List Piece → Type 0
+IsMapHeader header = map (λ p. held p.content) header ≡ map_columns
+
+-- The same, field by field.
 
 -- the name of column k, counted from 0
 abbrev pub map_column : ℕ → List ℕ

@@ -2,4 +2,4 @@ pub mod Columns
 pub mod Lines
 pub mod Reading
 pub mod RoundTrip
-pub mod Told
+pub mod Rules

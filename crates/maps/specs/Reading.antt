@@ -12,7 +12,7 @@ use Rattle.feeder.specs.Build.{IsBeyond, Lowest}
 use Rattle.feeder.specs.View.{lines_of, metered_of}
 use Rattle.files.specs.declared.fault.FileFault.{FileFault}
 use Rattle.files.specs.declared.fault.FileFault.TheVariants.{Bytes, Unreached}
-use Rattle.maps.specs.Lines.{map_lines}
+use Rattle.maps.specs.Rules.{FirstFault, AreLinesOf}
 
 -- the lines that were read, or the fault
 abbrev pub items_in : Result (ArrayVec Line) FileFault → Result (List Line) FileFault
@@ -26,21 +26,17 @@ fault_bus Overmetered = 0
 fault_bus (Flawed bus) = bus
 fault_bus (Beyond bus) = bus
 
--- a refusal leaves the place as it was
-abbrev pub Kept : Map → Map → Result (Unit {0}) FileFault → FileFault → Type 0
-Kept old new r fault = (r ≡ Err fault) × (new ≡ old)
+-- The bytes are too many; or they are no file, and i is the place; or they write the file f. That has a first fault; or its lines have b for
+-- the lowest bus that does not reach the substation within the distance 1,000,000; or they are those of the map m, in which every bus is metered.
+pub data MapReading (bytes : List ℕ) (r : Result Map FileFault) : Type 0 where
+  long : 65536 < length bytes → r ≡ Err (Bytes TooLong) → MapReading bytes r
+  broken : (i : ℕ) → length bytes ≤ 65536 → Impossible bytes i → r ≡ Err (Bytes (Syntax i)) → MapReading bytes r
+  faulty : (f : File) (fault : FileFault) → length bytes ≤ 65536 → Parse f bytes → FirstFault (length bytes) (records_of f) fault → r ≡ Err fault → MapReading bytes r
+  unreached : (f : File) (lines : List Line) (b : ℕ) → length bytes ≤ 65536 → Parse f bytes → AreLinesOf (records_of f) lines → Lowest lines (IsBeyond lines) b →
+      r ≡ Err (Unreached b) → MapReading bytes r
+  drawn : (f : File) (m : Map) → length bytes ≤ 65536 → Parse f bytes → AreLinesOf (records_of f) (lines_of m) → metered_of m ≡ length (lines_of m) →
+      r ≡ Ok m → MapReading bytes r
 
--- The lines are a map's, with every bus metered, which fills the place, whatever it held; or b is the lowest bus that does not reach the substation within the distance 1,000,000.
-pub data MapEnds (lines : List Line) (old new : Map) (r : Result (Unit {0}) FileFault) : Type 0 where
-  drawn : r ≡ Ok tt → lines_of new ≡ lines → metered_of new ≡ length lines → MapEnds lines old new r
-  unreached : (b : ℕ) → Lowest lines (IsBeyond lines) b → Kept old new r (Unreached b) → MapEnds lines old new r
-
-abbrev pub MapOutcome : Map → Map → Result (Unit {0}) FileFault → Result (List Line) FileFault → Type 0
-MapOutcome old new r (Ok lines) = MapEnds lines old new r
-MapOutcome old new r (Err fault) = Kept old new r fault
-
--- The bytes are too many; or they are no file, and i is the place; or they write the file f, whose records are read.
-pub data MapReading (bytes : List ℕ) (old new : Map) (r : Result (Unit {0}) FileFault) : Type 0 where
-  long : 65536 < length bytes → Kept old new r (Bytes TooLong) → MapReading bytes old new r
-  broken : (i : ℕ) → length bytes ≤ 65536 → Impossible bytes i → Kept old new r (Bytes (Syntax i)) → MapReading bytes old new r
-  read : (f : File) → length bytes ≤ 65536 → Parse f bytes → MapOutcome old new r (map_lines (length bytes) (records_of f)) → MapReading bytes old new r
+-- a map file has exactly one outcome
+abbrev pub MapOutcomesAreUnique : Type 0
+MapOutcomesAreUnique = (bytes : List ℕ) (a b : Result Map FileFault) → MapReading bytes a → MapReading bytes b → a ≡ b

@@ -6,13 +6,14 @@ use Rattle.files.specs.declared.fault.FileFault.{FileFault}
 use Rattle.printing.specs.MapTexts.{map_text}
 use Rattle.maps.specs.Reading.{MapReading}
 
--- the place has the lines of m, every bus is metered, and where all of m's are, it has m itself
-pub record ReadBack (m new : Map) (r : Result (Unit {0}) FileFault) : Type 0 where
-  pub accepted : r ≡ Ok tt
-  pub lines : lines_of new ≡ lines_of m
-  pub metered : metered_of new ≡ length (lines_of m)
-  pub same : metered_of m ≡ length (lines_of m) → new ≡ m
+-- a map is read that has the lines of m and every bus metered, and where all of m's are, it is m itself
+pub record ReadBack (m : Map) (r : Result Map FileFault) : Type 0 where
+  pub read : Map
+  pub accepted : r ≡ Ok read
+  pub lines : lines_of read ≡ lines_of m
+  pub metered : metered_of read ≡ length (lines_of m)
+  pub same : metered_of m ≡ length (lines_of m) → read ≡ m
 
 -- whatever reading the text of a map with 1 to 64 buses answers, it gives that map back
 abbrev pub WrittenMapsAreRead : Type 0
-WrittenMapsAreRead = (m old new : Map) (r : Result (Unit {0}) FileFault) → 1 ≤ length (lines_of m) → length (lines_of m) ≤ 64 → MapReading (map_text (lines_of m)) old new r → ReadBack m new r
+WrittenMapsAreRead = (m : Map) (r : Result Map FileFault) → 1 ≤ length (lines_of m) → length (lines_of m) ≤ 64 → MapReading (map_text (lines_of m)) r → ReadBack m r

@@ -11,8 +11,8 @@ use units::Scale;
 // The largest resistance, in millionths.
 const MOST_RESISTANCE: u32 = 1_000_000;
 
-// Checks that a record's bus is the next one.
-pub(crate) fn read_next(field: Field<'_>, next: usize) -> Result<(), FileFault>
+// A record's bus, which has to be the next one.
+pub(crate) fn read_next(field: Field<'_>, next: usize) -> Result<usize, FileFault>
     ensures value { result ≡ next_of next (piece field.entry) }
     ensures few { OnOk result (next ≤ 64) }
 {
@@ -21,7 +21,7 @@ pub(crate) fn read_next(field: Field<'_>, next: usize) -> Result<(), FileFault>
     if bus != next || bus > MOST_METERED {
         return Err(FileFault::MapEntry { at });
     }
-    Ok(())
+    Ok(bus)
 }
 
 // A record's parent, in a file of so many buses.

@@ -1,4 +1,4 @@
-// Map files: a header, then one record for each bus with its parent and the resistance of its line.
+//! Map files: a header, then one record for each bus with its parent and the resistance of its line.
 
 #![tactic(auto)]
 

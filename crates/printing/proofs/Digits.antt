@@ -3,7 +3,7 @@ use Rattle.std.proofs.Common.{◌≡◌, ℕ, ◌+◌, ◌*◌, ◌/◌, ◌%◌
 use native.Mathlib.Nat.{div-div-eq-div-mul}
 use Rattle.std.proofs.lemmas.Bool.{and_parts, and_from, cond_both, ltb-true, le-leb}
 use Rattle.rfc4180.specs.Grammar.{text_data, every}
-use Rattle.units.specs.Decimals.{digit, digits, push, number, Decimal, size, bus_of, decimal_of}
+use Rattle.units.specs.Decimals.{digit, digits, push, number, Decimal, Form, size, Reads, bus_of, decimal_of}
 use Rattle.units.proofs.Forms.{form_number, reads_value}
 use Rattle.printing.specs.MapTexts.{digit_at, short_number, per_unit}
 
@@ -100,7 +100,11 @@ size_back n small =
     ∙ ap (λ f. counted n 0 (1000000 ∷ []) * 1000000 + f * 1) (number_counted n 0 behind)
     ∙ whole_and_behind n small
 
+per_unit_form : (n : ℕ) → Form 6 (parts n)
+per_unit_form n = record { whole = all_digits n (1000000 ∷ []); some = omega arith; four = omega arith; fraction = all_digits n behind; fine = omega arith }
+
+pub per_unit_reads : (n : ℕ) → n < 10000000 → Reads 6 (per_unit n) (Some (pos n))
+per_unit_reads n small = (parts n, per_unit_form n, refl, ap pos (sym (size_back n small)))
+
 pub per_unit_back : (n : ℕ) → n < 10000000 → decimal_of 6 (per_unit n) ≡ Some (pos n)
-per_unit_back n small =
-    reads_value 6 (parts n) (record { whole = all_digits n (1000000 ∷ []); some = omega arith; four = omega arith; fraction = all_digits n behind; fine = omega arith })
-    ∙ ap (λ k. Some (pos k)) (size_back n small)
+per_unit_back n small = reads_value 6 (parts n) (per_unit_form n) ∙ ap (λ k. Some (pos k)) (size_back n small)

@@ -8,8 +8,8 @@ use Rattle.feeder.specs.View.{lines_of}
 use Rattle.feeder.specs.Feeder.{Bus, parent_of, resistance_of}
 use Rattle.feeder.proofs.Maps.{parents, map_stands}
 use Rattle.printing.specs.Texts.{new_line}
-use Rattle.printing.specs.MapTexts.{short_number, per_unit, line_text, lines_text, map_text, MapsAreShort, NumbersAreTold}
-use Rattle.printing.proofs.Digits.{short_back, per_unit_back}
+use Rattle.printing.specs.MapTexts.{short_number, per_unit, line_text, lines_text, map_text, MapsAreShort, NumbersReadBack}
+use Rattle.printing.proofs.Digits.{short_back, per_unit_reads}
 
 short_length : (n : ℕ) → length (short_number n) ≤ 3
 short_length n =
@@ -44,7 +44,11 @@ maps_are_short m = (omega (arith, lines_length 1 (lines_of m), (map_stands m).co
 pub resistance_most : (m : Map) (b : ℕ) → Bus (lines_of m) b → resistance_of (lines_of m) b ≤ 1000000
 resistance_most m b bus = omega (arith, m.measured b bus, m.near b bus.1)
 
-pub numbers_are_told : NumbersAreTold
-numbers_are_told m b bus =
+pub numbers_read_back : NumbersReadBack
+numbers_read_back m b bus =
     let counted = (map_stands m).counted in
-    (short_back b (omega (arith, bus.1)), short_back (parent_of (lines_of m) b) (omega (arith, parents m b bus)), per_unit_back (resistance_of (lines_of m) b) (omega (arith, resistance_most m b bus)))
+    record {
+      bus = short_back b (omega (arith, bus.1));
+      parent = short_back (parent_of (lines_of m) b) (omega (arith, parents m b bus));
+      resistance = per_unit_reads (resistance_of (lines_of m) b) (omega (arith, resistance_most m b bus));
+    }

@@ -10,8 +10,8 @@ use refusals::Refusal;
 // The header above every refusal.
 const HEADER: &[u8] = b"layer,refusal,place";
 
-// Enough for the text of any refusal: 21 bytes of header, a name of at most 8, a number of at most 3, a place of at most 20,
-// two commas and a line end.
+// Enough for the text of any refusal: 21 bytes of header, a name of at most 8, a number of at most
+// 3, a place of at most 20, two commas and a line end.
 type RefusalText = Text<56>;
 
 // The text of a refusal.
@@ -30,7 +30,13 @@ fn refusal_text(refusal: Refusal) -> RefusalText
     text
 }
 
-/// Writes a refusal to the front of a buffer and says how long its text is; a buffer that is too short stays as it was.
+/// Writes the text of a refusal to the front of a buffer and gives its length in bytes, which is at
+/// most 56; the bytes behind stay.
+///
+/// Below a header stands one record: the layer's name, the number and the place. CR LF ends every
+/// line.
+///
+/// A buffer that is too short is refused with the length that the text needs, and stays as it was.
 pub fn write_refusal(refusal: Refusal, out: &mut [u8]) -> Result<usize, FileFault>
     ensures writes { Writing (refusal_text refusal) out.old out.new result }
     ensures short { RefusalsAreShort }

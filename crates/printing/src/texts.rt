@@ -12,7 +12,7 @@ pub(crate) const NEW_LINE: &[u8] = b"\r\n";
 
 pub(crate) const COMMA: &[u8] = b",";
 
-// A text of at most `N` bytes. They are put in and written out as bytes, so `ArrayString` would be no plainer.
+// A text of at most `N` bytes.
 #[derive(Drop)]
 pub(crate) struct Text<const N: usize> {
     bytes: ArrayVec<u8, N>,
@@ -33,7 +33,8 @@ impl<const N: usize> Text<N> {
     pub(crate) fn push(&mut self, part: &[u8])
         requires { array_vec_len self.old.bytes + length part.now ≤ N }
         ensures bytes { self.new.bytes.items ≡ self.old.bytes.items ++ part.now }
-        ensures len { array_vec_len self.new.bytes ≡ array_vec_len self.old.bytes + length part.now }
+        ensures len { array_vec_len self.new.bytes
+            ≡ array_vec_len self.old.bytes + length part.now }
     {
         self.bytes.try_extend_from_slice(part).unwrap();
     }
@@ -42,12 +43,14 @@ impl<const N: usize> Text<N> {
     pub(crate) fn push_number<I: Integer>(&mut self, n: I)
         requires { array_vec_len self.old.bytes + length (I.text n) ≤ N }
         ensures bytes { self.new.bytes.items ≡ self.old.bytes.items ++ I.text n }
-        ensures len { array_vec_len self.new.bytes ≡ array_vec_len self.old.bytes + length (I.text n) }
+        ensures len { array_vec_len self.new.bytes
+            ≡ array_vec_len self.old.bytes + length (I.text n) }
     {
         self.push(Buffer::new().format(n).as_bytes());
     }
 
-    // Puts the text at the front of a buffer and says how long it is; a buffer that is too short stays as it was.
+    // Puts the text at the front of a buffer and gives its length; a buffer that is too short stays
+    // as it was.
     pub(crate) fn write_to(&self, out: &mut [u8]) -> Result<usize, FileFault>
         ensures { Writing self.now.bytes.items out.old out.new result }
     {

@@ -24,8 +24,7 @@ pub trait Source {
     fn read(&self, bus: usize) -> Result<i64, SourceFault>
         ensures { result ≡ read_of (facts self.now) bus };
 
-    // Sets an inverter that is on its schedule off it, by the step. The two are plain arguments, here and in a campaign: a struct of them
-    // would be no plainer, and a campaign's `Step` is what comes of them.
+    // Sets an inverter that is on its schedule off it, by the step.
     fn command(&mut self, inverter: usize, step: i32) -> Result<(), SourceFault>
         ensures answer { result ≡ command_of (facts self.old) inverter step }
         ensures effect { facts self.new ≡ commanded (facts self.old) inverter step };

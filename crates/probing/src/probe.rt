@@ -7,8 +7,7 @@ use crate::interface::Source;
 use feeder::MOST_METERED;
 use std::array;
 
-// Reads every meter in bus order: the voltage of bus n stands at n - 1, and 0 behind the last bus. An array and no `ArrayVec`:
-// the contract tells all 64 places, and may not tell less.
+// Reads every meter in bus order: the voltage of bus n stands at n - 1, and 0 behind the last bus.
 pub fn read_all<S: Source>(source: &S) -> Result<[i64; MOST_METERED], SourceFault>
     ensures { result ≡ read_all_of (S.Source.facts source.now) }
 {

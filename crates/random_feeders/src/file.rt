@@ -29,7 +29,6 @@ impl Change {
             1 + random.below(metered)
         };
         let both = random.flip();
-        // What is below the bound fits, so try_from would be no plainer.
         let size = 1 + random.below(3) as u64;
         let up = random.flip();
         Change {
@@ -96,7 +95,6 @@ fn write_record(
     inverter: usize,
     random: &mut Random,
 ) -> io::Result<()> {
-    // What is below the bound fits, so try_from would be no plainer.
     let step = 1 + random.below(1_000) as u64;
     let sign = if random.flip() { "-" } else { "" };
     let whole = step / 1_000;

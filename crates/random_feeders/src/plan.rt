@@ -132,7 +132,6 @@ impl Plan {
 
     pub(crate) fn resistance(&self, random: &mut Random) -> u32 {
         let resistance = self.least + random.below(self.most - self.least + 1);
-        // At most 1,000,000, so try_from would be no plainer.
         resistance as u32
     }
 }

@@ -29,7 +29,6 @@ impl Maker {
 
     // Any standing voltage for each bus.
     fn standing(&mut self, map: &Map) -> io::Result<Vec<i64>> {
-        // What is below the bound fits, so try_from would be no plainer.
         let voltages = (0..map.buses())
             .map(|_| self.random.below(2_000_000_001) as i64 - 1_000_000_000)
             .collect(self.heap)?;

@@ -1,4 +1,4 @@
-// How a call that is turned down says so: a number, the layer that refuses, and a place.
+//! How a call that is turned down says so: a number, the layer that refuses, and a place.
 
 #![tactic(auto)]
 
@@ -7,17 +7,21 @@ ghost use Rattle.refusals.specs.Texts.{layer_name, refusal_told};
 
 use std::fmt;
 
-// The layer that refuses.
+/// The layer that refuses.
 #[derive(Clone, Copy, PartialEq, Eq, Debug)]
 pub enum Layer {
+    /// Files: their bytes, fields and texts.
     File,
+    /// A source of voltages.
     Source,
+    /// A campaign.
     Campaign,
+    /// A drawing.
     Drawing,
 }
 
 impl Layer {
-    // The layer's name.
+    /// The name, as it is printed: `file`, `source`, `campaign` or `drawing`.
     pub fn name(self) -> &'static str
         ensures name { result.now ≡ layer_name self }
         ensures short { length result.now ≤ 8 }
@@ -39,12 +43,14 @@ impl fmt::Display for Layer {
     }
 }
 
-// A refusal, as it is printed. In a file the place is a byte's position from 0; elsewhere it is a bus, an inverter, an index or a
-// length. The number stays a number, since the faults that refusals are made from are enums: one more enum of the numbers is no plainer.
+/// A refusal, as it is printed. The faults that it is made from are enums, one for each layer.
 #[derive(Clone, Copy, PartialEq, Eq, Debug)]
 pub struct Refusal {
+    /// Which refusal it is, by its number.
     pub number: u8,
+    /// The layer that refuses.
     pub layer: Layer,
+    /// In a file the position of a byte, counted from 0; elsewhere a bus, an inverter, an index or a length.
     pub place: usize,
 }
 

@@ -1,74 +1,123 @@
-// Reads a response file from standard input and prints what it holds, or the refusal.
+//! Reads a response file from standard input and prints what it holds, or the refusal.
 
 #![tactic(auto)]
 
 use files::{Probe, Table};
 use refusals::Refusal;
-use std::io::Read;
+use rfc4180::read_input;
 use std::{fmt, io};
-use units::Scale;
+use units::{PerUnit, Scale};
 
-// A value of a scale, printed in per unit with all the digits of the scale.
+// What is printed of a response file, without the last line end: what it holds, or why it is turned down.
 #[derive(Clone, Copy)]
-struct PerUnit(i64, Scale);
+enum Report {
+    Held(Table),
+    Refused(Refusal),
+}
 
-impl fmt::Display for PerUnit {
-    fn fmt<W: fmt::Write>(&self, f: &mut fmt::Formatter<W>) -> fmt::Result {
-        let PerUnit(value, scale) = *self;
-        let places = scale.places();
-        // `as`: a `usize` has no `From` to the `u32` of `pow`, and a `TryFrom` would hand on an error that can't come.
-        let unit = 10u64.pow(places as u32);
-        let sign = if value < 0 { "-" } else { "" };
-        let whole = value.unsigned_abs() / unit;
-        let part = value.unsigned_abs() % unit;
-        write!(f, "{sign}{whole}.{part:0places$}")
+impl Report {
+    fn of(file: &[u8]) -> Report {
+        let mut table = Table::new();
+        match table.read(file) {
+            Ok(()) => Report::Held(table),
+            Err(fault) => Report::Refused(Refusal::from(fault)),
+        }
     }
 }
 
-fn print_probe(rt: &HostRuntime, inverter: usize, probe: &Probe, buses: usize) -> io::Result<()> {
-    let step = probe.step;
-    let shown = PerUnit(step, Scale::Thousandths);
-    println!(rt; "inverter {inverter}: step {step} thousandths, {shown} per unit")?;
-    for (i, response) in probe.responses.iter().take(buses).enumerate() {
-        let bus = i + 1;
-        let shown = PerUnit(*response, Scale::Millionths);
-        println!(rt; "  bus {bus}: {response} millionths, {shown} per unit")?;
+impl fmt::Display for Report {
+    fn fmt<W: fmt::Write>(&self, f: &mut fmt::Formatter<W>) -> fmt::Result {
+        match self {
+            Report::Held(table) => write_table(f, table),
+            Report::Refused(refusal) => write!(f, "{refusal}"),
+        }
+    }
+}
+
+fn write_table<W: fmt::Write>(f: &mut fmt::Formatter<W>, table: &Table) -> fmt::Result {
+    let buses = table.buses;
+    write!(f, "buses: {buses}")?;
+    write_mute(f, table)?;
+    for (i, probe) in table.probes.iter().enumerate() {
+        if let Some(probe) = probe {
+            write_probe(f, table, i + 1, probe)?;
+        }
     }
     Ok(())
 }
 
-fn print_mute(rt: &HostRuntime, table: &Table) -> io::Result<()> {
-    for (i, mute) in table.mute.iter().enumerate() {
-        if *mute {
-            let bus = i + 1;
-            println!(rt; "bus {bus}: mute")?;
+fn write_mute<W: fmt::Write>(f: &mut fmt::Formatter<W>, table: &Table) -> fmt::Result {
+    let mut heard = true;
+    for bus in 1..=table.buses {
+        if table.is_mute(bus) {
+            heard = false;
+            write!(f, "\nbus {bus}: mute")?;
         }
     }
-    if table.mute.contains(&true) {
-        Ok(())
-    } else {
-        println!(rt; "no bus is mute")
+    if heard {
+        write!(f, "\nno bus is mute")?;
     }
+    Ok(())
 }
 
-fn print_table(rt: &HostRuntime, table: &Table) -> io::Result<()> {
-    let buses = table.buses;
-    println!(rt; "buses: {buses}")?;
-    print_mute(rt, table)?;
-    for (i, probe) in table.probes.iter().enumerate() {
-        if let Some(probe) = probe {
-            print_probe(rt, i + 1, probe, buses)?;
-        }
+fn write_probe<W: fmt::Write>(
+    f: &mut fmt::Formatter<W>,
+    table: &Table,
+    inverter: usize,
+    probe: &Probe,
+) -> fmt::Result {
+    let step = probe.step;
+    let shown = PerUnit::new(step, Scale::Thousandths);
+    write!(
+        f,
+        "\ninverter {inverter}: step {step} thousandths, {shown} per unit"
+    )?;
+    for bus in 1..=table.buses {
+        let response = table.response(bus, inverter);
+        let shown = PerUnit::new(response, Scale::Millionths);
+        write!(f, "\n  bus {bus}: {response} millionths, {shown} per unit")?;
     }
     Ok(())
 }
 
 fn main(rt: HostRuntime) -> io::Result<()> {
-    let mut bytes = Vec::new(rt.alloc());
-    rt.stdin().read_to_end(&mut bytes)?;
-    let mut table = Table::new();
-    match table.read(bytes.as_slice()) {
-        Ok(()) => print_table(&rt, &table),
-        Err(fault) => rt.println(Refusal::from(fault)),
+    let file = read_input(rt.alloc(), rt.stdin())?;
+    rt.println(Report::of(file.as_slice()))
+}
+
+#[cfg(test)]
+mod tests {
+    use super::*;
+    use std::alloc::Global;
+    use std::process::Abort;
+    use std::test::Fail;
+
+    // Whether this is what is printed of a file.
+    fn is_printed(rt: &impl Abort, alloc: Global, file: &[u8], text: &str) -> Result<(), Fail> {
+        let report = Report::of(file);
+        let printed = format!(in alloc; "{report}")?;
+        assert_eq!(rt; printed.as_str(), text);
+        Ok(())
+    }
+
+    #[test]
+    fn refused_files(rt: HostRuntime) -> Result<(), Fail> {
+        is_printed(&rt, rt.alloc(), b"", "refusal 3, layer file, place 0")?;
+        is_printed(
+            &rt,
+            rt.alloc(),
+            b"probe,step,1\r\n1,0.002,0.000000001",
+            "refusal 8, layer file, place 22",
+        )
+    }
+
+    #[test]
+    fn responses_below_0_and_a_blank(rt: HostRuntime) -> Result<(), Fail> {
+        is_printed(
+            &rt,
+            rt.alloc(),
+            b"probe,step,1,2\r\n1,-0.250,0.00025,\r\n",
+            "buses: 2\nbus 2: mute\ninverter 1: step -250 thousandths, -0.250 per unit\n  bus 1: -1000 millionths, -0.001000 per unit\n  bus 2: 0 millionths, 0.000000 per unit",
+        )
     }
 }

@@ -1,6 +1,8 @@
 pub mod Bounds
 pub mod Accepts
+pub mod Along
 pub mod Complete
+pub mod Openings
 pub mod Sound
 pub mod Decided
 pub mod Parses
@@ -9,5 +11,7 @@ pub mod Readings
 pub mod Unique
 pub mod Held
 pub mod Rows
-pub mod Counts
+pub mod Keeping
 pub mod Quotes
+pub mod Kept
+pub mod Possible

@@ -37,6 +37,7 @@ quoted_text : (raw : List ℕ) (b : Bool) → quoteless raw ≡ b → text_of (q
 quoted_text raw true e = ap (λ (t : Bool). cond t (Some (undoubled raw)) None) (same_quotes raw ∙ e) ∙ ap Some (undoubled_same raw e)
 quoted_text raw false e = ap (λ (t : Bool). cond t (Some (undoubled raw)) None) (same_quotes raw ∙ e)
 
-pub found_text : (bytes : Bor (List ℕ)) (found : Bool) → found ≡ not (quoteless bytes.now) → option_map (λ x. x.now) (then_some (not found) bytes) ≡ text_of (quotedly (undoubled bytes.now))
-found_text bytes true h = sym (quoted_text bytes.now false (grind arith))
-found_text bytes false h = sym (quoted_text bytes.now true (grind arith))
+-- the bytes of a quoted field are its text where no quote is among them
+pub text_quoted : (bytes : Bor (List ℕ)) (found : Bool) → found ≡ not (quoteless bytes.now) → option_map (λ x. x.now) (then_some (not found) bytes) ≡ text_of (quotedly (undoubled bytes.now))
+text_quoted bytes true h = sym (quoted_text bytes.now false (grind arith))
+text_quoted bytes false h = sym (quoted_text bytes.now true (grind arith))

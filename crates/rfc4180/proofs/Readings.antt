@@ -65,7 +65,7 @@ pub record_found : (file : List ℕ) (p : ℕ) (r : Record) → Recorded file p 
 record_found file p r h = ap (λ (e : Extent). fields_from e.fields file p) h.extent ∙ h.fields
 
 -- the closing CR LF
-abbrev closing : Bool → List ℕ
+abbrev pub closing : Bool → List ℕ
 closing b = cond b (0x0D ∷ 0x0A ∷ []) []
 
 closing_stop : (b : Bool) → Stop (closing b)
@@ -95,11 +95,11 @@ trailing_below : (r : Record) (rs : Records) → trailing (above r rs) ≡ false
 trailing_below r (last s) h = refl
 trailing_below r (above s rs) h = h
 
-rule_below : (b : Bool) (r : Record) (rs : Records) → (b || not (trailing (above r rs))) ≡ true → (b || not (trailing rs)) ≡ true
+pub rule_below : (b : Bool) (r : Record) (rs : Records) → (b || not (trailing (above r rs))) ≡ true → (b || not (trailing rs)) ≡ true
 rule_below true r rs h = refl
 rule_below false r rs h = ap not (trailing_below r rs (not-true (trailing (above r rs)) h))
 
-bytes_below : (b : Bool) (r : Record) (rs : Records) → (b || not (trailing (above r rs))) ≡ true → 0 < length (records_text rs ++ closing b)
+pub bytes_below : (b : Bool) (r : Record) (rs : Records) → (b || not (trailing (above r rs))) ≡ true → 0 < length (records_text rs ++ closing b)
 bytes_below true r rs h = omega (arith, length-append (records_text rs) (closing true))
 bytes_below false r rs h =
     omega (arith, length-append (records_text rs) (closing false), not_trailing r rs (not-true (trailing (above r rs)) h))

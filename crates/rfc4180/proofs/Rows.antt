@@ -1,13 +1,13 @@
--- The fields of a record, one field on: how many they are and where they end.
-use Rattle.std.proofs.Common.{◌≡◌, ℕ, zero, suc, ◌+◌, ◌≤◌, Bool, true, false, cond, eqb, List, [], ◌∷◌, length, get_or, drop, sym, refl, ap, ◌∙◌, ⊎_elim, one-add, arith}
+-- The records of a file and their fields, one on: how many fields a record has, and where the last ends.
+use Rattle.std.proofs.Common.{◌≡◌, ℕ, zero, suc, ◌+◌, ◌≤◌, Bool, true, false, cond, eqb, ltb, List, [], ◌∷◌, length, get_or, drop, sym, refl, ap, ◌∙◌, ⊎_elim, one-add, arith}
 use Rattle.std.specs.List.{prefix_len}
 use Rattle.std.proofs.lemmas.Bool.{eqb-true, ltb-true, and_parts, cond_both, cases_lt}
 use Rattle.std.proofs.lemmas.List.{get_or_past, length-drop}
 use Rattle.std.proofs.lemmas.List.Sums.{prefix_len-le-length}
 use Rattle.rfc4180.specs.Grammar.{text_data}
 use Rattle.rfc4180.specs.Places.{Piece, start_of, end_of}
-use Rattle.rfc4180.specs.Reading.{close_at, quoted_at, field_end, piece_at, fields_from, Extent, extent_within, extent_at, record_at}
-use Rattle.rfc4180.proofs.Bounds.{field_after, extent_more}
+use Rattle.rfc4180.specs.Reading.{close_at, quoted_at, field_end, piece_at, fields_from, Extent, extent_within, extent_at, record_at, records_at}
+use Rattle.rfc4180.proofs.Bounds.{field_after, extent_more, records_more}
 
 row_step : (file : List ℕ) (p q : ℕ) (e : Extent) (b : Bool) →
     fields_from (cond {A = Extent} b (record { fields = 1 + e.fields; end = e.end }) (record { fields = 1; end = q })).fields file p ≡ piece_at file p ∷ cond b (fields_from e.fields file (field_end file p + 1)) []
@@ -36,14 +36,9 @@ row_start file p = ap start_of (row_more file p)
 pub row_end : (e : ℕ) (file : List ℕ) (p : ℕ) → last_end e (record_at file p) ≡ end_of (record_at file p)
 row_end e file p = last_ends e (row_more file p)
 
--- each field ends at n or before
-abbrev pub Within : ℕ → List Piece → Type 0
-Within n [] = Unit {0}
-Within n (x ∷ xs) = (x.end ≤ n) × Within n xs
-
 -- what an extent says of the fields of its record
 record Spans (file : List ℕ) (p : ℕ) (e : Extent) : Type 0 where
-  within : Within (length file) (fields_from e.fields file p)
+  within : e.end ≤ length file
   count : length (fields_from e.fields file p) + p ≤ length file + 1
   ends : (d : ℕ) → last_end d (fields_from e.fields file p) ≡ e.end
 
@@ -60,12 +55,12 @@ comma_within file q e =
 
 spans_one : (file : List ℕ) (p : ℕ) → p ≤ length file → Spans file p (record { fields = 1; end = field_end file p })
 spans_one file p l =
-    record { within = (field_within file p l, tt); count = omega arith; ends = λ d. refl }
+    record { within = field_within file p l; count = omega arith; ends = λ d. refl }
 
 spans_more : (file : List ℕ) (p : ℕ) (e : Extent) → p ≤ length file → Spans file (field_end file p + 1) e → Spans file p (record { fields = 1 + e.fields; end = e.end })
 spans_more file p e l s =
     record {
-      within = rw (one-add e.fields) (field_within file p l, s.within);
+      within = s.within;
       count = rw (one-add e.fields) (omega (arith, s.count, field_after file p));
       ends = λ d. rw (one-add e.fields) (s.ends (field_end file p));
     }
@@ -77,11 +72,18 @@ spans (suc n) file p l =
     (λ e. spans_more file p (extent_within n file (field_end file p + 1)) l (spans n file (field_end file p + 1) (comma_within file (field_end file p) e)))
     (λ e. spans_one file p l)
 
-pub row_within : (file : List ℕ) (p : ℕ) → p ≤ length file → Within (length file) (record_at file p)
-row_within file p l = (spans (length file) file p l).within
-
 pub row_count : (file : List ℕ) (p : ℕ) → p ≤ length file → length (record_at file p) ≤ length file + 1
 row_count file p l = omega (arith, (spans (length file) file p l).count)
 
 pub row_extent : (file : List ℕ) (p : ℕ) → p ≤ length file → end_of (record_at file p) ≡ (extent_at file p).end
 row_extent file p l = sym (row_end 0 file p) ∙ (spans (length file) file p l).ends 0
+
+pub row_end_within : (file : List ℕ) (p : ℕ) → p ≤ length file → end_of (record_at file p) ≤ length file
+row_end_within file p l = omega (arith, row_extent file p l, (spans (length file) file p l).within)
+
+-- the record at p, and after a CR LF that the file goes on after the records of the rest
+pub rows_more : (file : List ℕ) (p : ℕ) → p ≤ length file →
+    records_at file p ≡ record_at file p ∷ cond (ltb (end_of (record_at file p) + 2) (length file)) (records_at file (end_of (record_at file p) + 2)) []
+rows_more file p l =
+    records_more file p
+    ∙ ap (λ (q : ℕ). record_at file p ∷ cond (ltb (q + 2) (length file)) (records_at file (q + 2)) []) (sym (row_extent file p l))

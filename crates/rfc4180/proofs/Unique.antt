@@ -88,7 +88,7 @@ one_tree bytes h =
       only = λ g k. unique g p.0 bytes k p.1;
     }
 
-pub parsed : (bytes : List ℕ) (r : Result (Unit {0}) Fault) → Verdict bytes r → Parsed bytes r
-parsed bytes (Ok u) h = one_tree bytes h.1
+pub parsed : {A : Type 0} (bytes : List ℕ) (r : Result A Fault) → Verdict bytes r → Parsed bytes r
+parsed bytes (Ok a) h = one_tree bytes h.1
 parsed bytes (Err TooLong) h = tt
 parsed bytes (Err (Syntax at)) h = tt

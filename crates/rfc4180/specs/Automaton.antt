@@ -26,7 +26,18 @@ final Inside = false
 final Closed = true
 final Return = false
 
--- the rest of a file, from a state at the place i
-abbrev pub scan_of : State → ℕ → List ℕ → Result (Unit {0}) Fault
-scan_of s i [] = cond (final s) (Ok tt) (Err (Syntax i))
-scan_of s i (b ∷ bs) = elim (step_of s b) [ None ↦ Err (Syntax i) | Some t ↦ scan_of t (i + 1) bs ]
+-- how many records open after a byte that follows a state, by the bytes behind it: one after the LF
+-- of a line end, unless it closes the file
+abbrev pub opened : State → List ℕ → ℕ
+opened Start bs = 0
+opened Plain bs = 0
+opened Inside bs = 0
+opened Closed bs = 0
+opened Return [] = 0
+opened Return (b ∷ bs) = 1
+
+-- the rest of a file, from a state at the place i, with n records opened: how many the file has
+abbrev pub scan_of : State → ℕ → ℕ → List ℕ → Result ℕ Fault
+scan_of s i n [] = cond (final s) (Ok n) (Err (Syntax i))
+scan_of s i n (b ∷ bs) =
+    elim (step_of s b) [ None ↦ Err (Syntax i) | Some t ↦ scan_of t (i + 1) (n + opened s bs) bs ]

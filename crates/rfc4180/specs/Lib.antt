@@ -3,5 +3,7 @@ pub mod Automaton
 pub mod Places
 pub mod Reading
 pub mod Check
+pub mod Field
+pub mod After
 pub mod Views
 pub mod Opening

@@ -70,12 +70,3 @@ abbrev pub end_of : List Piece → ℕ
 end_of [] = 0
 end_of (p ∷ []) = p.end
 end_of (p ∷ q ∷ qs) = end_of (q ∷ qs)
-
--- a record at a glance: how many fields it has, where its first starts and where its last ends
-pub record Outline : Type 0 where
-  pub fields : ℕ
-  pub start : ℕ
-  pub end : ℕ
-
-abbrev pub outline_of : List Piece → Outline
-outline_of ps = record { fields = length ps; start = start_of ps; end = end_of ps }

@@ -1,5 +1,5 @@
 -- What a reader finds in a file's bytes from a place on.
-use Rattle.std.specs.Prelude.{ℕ, zero, suc, ◌+◌, Bool, cond, ◌&&◌, List, [], ◌∷◌, length, take, drop, ◌==◌, nat_lt, slice_index}
+use Rattle.std.specs.Prelude.{ℕ, zero, suc, ◌+◌, Bool, cond, ◌&&◌, List, [], ◌∷◌, length, take, drop, Some, None, Option, ◌==◌, nat_lt, slice_index}
 use Rattle.std.specs.List.{prefix_len}
 use Rattle.rfc4180.specs.Grammar.{text_data}
 use Rattle.rfc4180.specs.Places.{Content, plainly, quotedly, nothing, Piece}
@@ -31,6 +31,10 @@ close_at file p = p + 1 + held_length (drop (p + 1) file)
 -- whether a quoted field stands at p: a quote there, and its closing quote further on
 abbrev pub quoted_at : List ℕ → ℕ → Bool
 quoted_at file p = slice_index file p == 0x22 && nat_lt (close_at file p) (length file)
+
+-- the bytes between the quotes of the field that starts at p, if it is a quoted one
+abbrev pub quoted_part : List ℕ → ℕ → Option (List ℕ)
+quoted_part file p = cond (quoted_at file p) (Some (held_at file p)) None
 
 -- the place after the field that starts at p
 abbrev pub field_end : List ℕ → ℕ → ℕ

@@ -1,6 +1,7 @@
-ghost use Rattle.std.specs.Prelude.{◌≡◌, ◌+◌, ◌≤◌, ◌==◌, [], Some, None, cond, length, drop, nat_lt, slice_index};
+ghost use Rattle.std.specs.Prelude.{◌≡◌, ◌≤◌, ◌∷◌, drop, length};
 ghost use Rattle.std.specs.Option.{option_map};
-ghost use Rattle.rfc4180.specs.Reading.{quoted_at, held_at, plain_at, piece_at, record_at, records_at};
+ghost use Rattle.rfc4180.specs.Places.{end_of};
+ghost use Rattle.rfc4180.specs.Reading.{quoted_part, plain_at, field_end, piece_at};
 
 use crate::Field;
 use crate::scan::{closing_quote, text_len};
@@ -15,7 +16,8 @@ pub(crate) struct Place<'a> {
 }
 
 impl<'a> Place<'a> {
-    ghost use Rattle.rfc4180.specs.Views.{piece, fields_after, records_after};
+    ghost use Rattle.rfc4180.specs.Field.{piece};
+    ghost use Rattle.rfc4180.specs.After.{fields_at, fields_after, records_after};
 
     // Where a file begins.
     pub(crate) fn first(file: &'a [u8]) -> Place<'a>
@@ -41,7 +43,7 @@ impl<'a> Place<'a> {
 
     // The bytes between the quotes of the field that starts there, if it is a quoted one.
     fn quoted(self) -> Option<&'a [u8]>
-        ensures { option_map (λ x. x.now) result ≡ cond (quoted_at self.entry.file.now self.entry.at) (Some (held_at self.entry.file.now self.entry.at)) None }
+        ensures { option_map (λ x. x.now) result ≡ quoted_part self.entry.file.now self.entry.at }
     {
         let held = self.rest().strip_prefix(b"\"")?;
         let close = closing_quote(held)?;
@@ -71,12 +73,13 @@ impl<'a> Place<'a> {
         }
     }
 
-    // Where the next field starts, after one that ends at `end`: a comma brings another.
+    // Where the next field of the record starts, if a comma follows this one, which ends at `end`.
+    #[tactic(auto, using(crate::proofs::Rows::row_more))]
     pub(crate) fn next_field(self, end: usize) -> Option<Place<'a>>
-        requires { end ≤ length self.file.now }
-        ensures { fields_after result ≡ cond (slice_index self.entry.file.now end == 0x2C) (record_at self.entry.file.now (end + 1)) [] }
+        requires { end ≡ field_end self.file.now self.at }
+        ensures { fields_at self.entry
+            ≡ piece_at self.entry.file.now self.entry.at ∷ fields_after result }
     {
-        // An `if`, here and below: a closure for `then` doesn't know the test, and would need both ghost fields as clauses of its own.
         if self.file.get(end) == Some(&b',') {
             Some(Place {
                 file: self.file,
@@ -87,10 +90,12 @@ impl<'a> Place<'a> {
         }
     }
 
-    // Where the next record starts, after one that ends at `end`: a CR LF brings another unless the file ends with it.
+    // Where the next record starts, if the file goes on after the CR LF that follows this one, which
+    // ends at `end`.
+    #[tactic(auto, using(crate::proofs::Rows::rows_more, crate::proofs::Rows::row_end_within))]
     pub(crate) fn next_record(self, end: usize) -> Option<Place<'a>>
-        requires { end ≤ length self.file.now }
-        ensures { records_after result ≡ cond (nat_lt (end + 2) (length self.entry.file.now)) (records_at self.entry.file.now (end + 2)) [] }
+        requires { end ≡ end_of (fields_at self) }
+        ensures { records_after (Some self.entry) ≡ fields_at self.entry ∷ records_after result }
     {
         let at = end + 2;
         if at < self.file.len() {

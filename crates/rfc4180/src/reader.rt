@@ -1,140 +1,150 @@
-ghost use Rattle.std.specs.Prelude.{◌≡◌, ◌≤◌, length};
-ghost use Rattle.std.specs.Iterator.{YieldsFirstBy, item_count};
+ghost use Rattle.std.specs.Prelude.{◌≡◌, IfSome, length, map, min, take};
+ghost use Rattle.std.specs.Iterator.{UpTo, YieldsFirstBy, item_count};
+ghost use Rattle.std.specs.Iterator.SizeHint.{IsWithinCount};
 ghost use Rattle.std.proofs.Props.{props};
-ghost use Rattle.rfc4180.specs.Places.{start_of, end_of, outline_of};
-ghost use Rattle.rfc4180.specs.Reading.{record_at};
+ghost use Rattle.rfc4180.specs.Places.{start_of, end_of};
+ghost use Rattle.rfc4180.specs.Field.{piece};
+ghost use Rattle.rfc4180.specs.After.{fields_at, records_after};
 
+use crate::automaton::count;
 use crate::place::Place;
-use crate::{Fault, Field, check};
+use crate::{Fault, Field};
+use arrayvec::ArrayVec;
 
-// The records of a checked file that are still to be read.
+/// The records of a checked file that are still to be read, from the top. Each of them keeps its
+/// first `KEPT` fields.
 #[derive(Clone, Copy)]
-pub struct Reader<'a> {
+pub struct Reader<'a, const KEPT: usize> {
     next: Option<Place<'a>>,
+    records: usize,
+    ghost counted: { records ≡ length (records_after next) },
 }
 
-impl<'a> Reader<'a> {
+#[tactic(auto, unfolding(crate::specs::Views::left))]
+impl<'a, const KEPT: usize> Reader<'a, KEPT> {
     ghost use Rattle.rfc4180.specs.Opening.{Opening};
+    ghost use Rattle.rfc4180.specs.Views.{left};
 
-    // A reader over a file, which exists only where the bytes are one.
-    pub fn open(file: &'a [u8]) -> Result<Reader<'a>, Fault>
+    /// A reader at the top of a file, which exists only where the bytes are one, at most 65,536 of them.
+    pub fn open(file: &'a [u8]) -> Result<Self, Fault>
         ensures { Opening file.now result }
     {
-        check(file)?;
+        let records = count(file)?;
         Ok(Reader {
             next: Some(Place::first(file)),
+            records,
         })
+    }
+
+    /// How many records are still to be read: of a file that was just opened all, and at least one.
+    /// They were counted as the file was checked, so no field is cut for it.
+    pub fn records(&self) -> usize
+        ensures { result ≡ length (left self.now) }
+    {
+        self.records
     }
 }
 
-impl<'a> Iterator for Reader<'a> {
+#[tactic(auto, unfolding(crate::specs::Views::left, crate::specs::Views::pieces))]
+impl<'a, const KEPT: usize> Iterator for Reader<'a, KEPT> {
     ghost use Rattle.rfc4180.specs.Views.{pieces, left};
 
-    type Item = Record<'a>;
+    type Item = Record<'a, KEPT>;
 
     ghost next_gives = { YieldsFirstBy pieces left };
 
     ghost remaining = { item_count left };
 
-    fn next(&mut self) -> Option<Record<'a>> {
+    fn next(&mut self) -> Option<Record<'a, KEPT>> {
         let first = self.next?;
         let record = Record::read(first);
-        self.next = first.next_record(record.end());
+        *self = Reader {
+            next: first.next_record(record.end),
+            records: self.records - 1,
+        };
         Some(record)
     }
+
+    fn size_hint(&self) -> (usize, Option<usize>)
+        ensures lower { IsWithinCount result.0 (item_count left self.now) }
+        ensures upper { IfSome result.1 (UpTo (item_count left self.now)) }
+        ensures least { result.0 ≡ length (left self.now) }
+        ensures most { result.1 ≡ Some (length (left self.now)) }
+    {
+        (self.records, Some(self.records))
+    }
 }
 
-// A record of a checked file.
-#[derive(Clone, Copy)]
-pub struct Record<'a> {
+/// A record of a checked file. It keeps its first `KEPT` fields, or all where it has fewer.
+#[derive(Drop)]
+pub struct Record<'a, const KEPT: usize> {
     first: Place<'a>,
-    fields: usize,
+    kept: ArrayVec<Field<'a>, KEPT>,
+    count: usize,
     end: usize,
-    ghost whole: { record { fields = fields; start = first.at; end = end } ≡ outline_of (record_at first.file.now first.at) } by { Prim.hlevel props },
+    ghost keeps: { map piece kept.items ≡ take KEPT (fields_at first) } by { Prim.hlevel props },
+    ghost counted: { count ≡ length (fields_at first) },
+    ghost ends: { end ≡ end_of (fields_at first) },
 }
 
-// The fields of a record that are still to be read.
-#[derive(Clone, Copy)]
-pub struct Fields<'a> {
-    next: Option<Place<'a>>,
-}
-
-impl<'a> Record<'a> {
-    ghost use Rattle.rfc4180.specs.Views.{pieces, outline, remaining};
+#[tactic(auto, unfolding(crate::specs::Views::pieces))]
+impl<'a, const KEPT: usize> Record<'a, KEPT> {
+    ghost use Rattle.rfc4180.specs.Views.{pieces};
 
     // The record whose first field starts at a place.
-    pub(crate) fn read(first: Place<'a>) -> Record<'a>
-        ensures pieces { pieces result ≡ record_at first.entry.file.now first.entry.at }
-        ensures within { (outline result).end ≤ length first.entry.file.now }
+    #[tactic(auto, using(crate::proofs::Keeping::cutting))]
+    fn read(first: Place<'a>) -> Self
+        ensures { result.first ≡ first.entry }
     {
-        let all = Fields { next: Some(first) };
-        // One `fold`, since `count` and `last` would go over the record's bytes twice.
-        let (fields, end) = all.fold((0, first.at()), |(n, _), field| (n + 1, field.end()));
-        Record { first, fields, end }
+        let mut kept = ArrayVec::new();
+        let mut count = 0;
+        let mut end = first.at();
+        let mut next = Some(first);
+        while let Some(place) = next {
+            let field = place.field();
+            end = field.end();
+            next = place.next_field(end);
+            count += 1;
+            if !kept.is_full() {
+                kept.push(field);
+            }
+        }
+        Record {
+            first,
+            kept,
+            count,
+            end,
+        }
     }
 
-    // How many fields the record has.
-    pub fn fields(&self) -> usize
-        ensures outline { result ≡ (outline self.now).fields }
-        ensures pieces { result ≡ length (pieces self.now) }
+    /// How many fields it has, kept or not: at least one, and at most 65,537.
+    pub fn count(&self) -> usize
+        ensures { result ≡ length (pieces self.now) }
     {
-        self.fields
+        self.count
     }
 
-    // Where its first field starts.
+    /// The fields that it keeps, from the left: the first `KEPT`, or all where there are fewer.
+    #[tactic(auto, using(crate::proofs::Kept::kept_len), unfolding(crate::specs::Views::pieces))]
+    pub fn fields(&self) -> &[Field<'a>]
+        ensures pieces { map piece result.now ≡ take KEPT (pieces self.now) }
+        ensures len { length result.now ≡ min KEPT (length (pieces self.now)) }
+    {
+        &self.kept
+    }
+
+    /// Where its first field starts.
+    #[tactic(auto, using(crate::proofs::Rows::row_start), unfolding(crate::specs::Views::pieces))]
     pub fn start(&self) -> usize
-        ensures outline { result ≡ (outline self.now).start }
-        ensures pieces { result ≡ start_of (pieces self.now) }
+        ensures { result ≡ start_of (pieces self.now) }
     {
         self.first.at()
     }
 
-    // Where its last field ends.
+    /// Where its last field ends, kept or not.
     pub fn end(&self) -> usize
-        ensures outline { result ≡ (outline self.now).end }
-        ensures pieces { result ≡ end_of (pieces self.now) }
+        ensures { result ≡ end_of (pieces self.now) }
     {
         self.end
-    }
-
-    // Its fields, from the left.
-    pub fn iter(&self) -> Fields<'a>
-        ensures pieces { remaining result ≡ pieces self.now }
-        ensures few { length (pieces self.now) ≤ 65537 }
-    {
-        Fields {
-            next: Some(self.first),
-        }
-    }
-}
-
-impl<'a> IntoIterator for Record<'a> {
-    ghost use Rattle.rfc4180.specs.Views.{pieces, remaining};
-
-    type Item = Field<'a>;
-
-    type IntoIter = Fields<'a>;
-
-    ghost into_iter_gives = { λ r fields. remaining fields ≡ pieces r };
-
-    fn into_iter(self) -> Fields<'a> {
-        self.iter()
-    }
-}
-
-impl<'a> Iterator for Fields<'a> {
-    ghost use Rattle.rfc4180.specs.Views.{piece, remaining};
-
-    type Item = Field<'a>;
-
-    ghost next_gives = { YieldsFirstBy piece remaining };
-
-    ghost remaining = { item_count remaining };
-
-    fn next(&mut self) -> Option<Field<'a>> {
-        let place = self.next?;
-        let field = place.field();
-        self.next = place.next_field(field.end());
-        Some(field)
     }
 }

@@ -17,16 +17,17 @@ pub(crate) fn text_len(bytes: &[u8]) -> usize
     bytes.iter().take_while(|byte| is_text(**byte)).count()
 }
 
-// Where the quote stands that closes the part between quotes that the bytes begin with; none where none does.
+// Where the quote stands that closes the part between quotes that the bytes begin with, if one does.
 pub(crate) fn closing_quote(bytes: &[u8]) -> Option<usize>
-    ensures { MatchOption result (held_length bytes.now ≡ length bytes.now) (λ close. (close ≡ held_length bytes.now) × (close < length bytes.now)) }
+    ensures { MatchOption result (held_length bytes.now ≡ length bytes.now)
+        (λ close. (close ≡ held_length bytes.now) × (close < length bytes.now)) }
 {
-    // By hand, since a pair of quotes takes two bytes at once, which no iterator over the bytes does.
     let mut at = 0;
     loop {
         match &bytes[at..] {
             [] => return None,
             [byte, ..] if *byte != b'"' => at += 1,
+            // A pair of quotes is a held one: both are passed over at once.
             [_, b'"', ..] => at += 2,
             _ => return Some(at),
         }

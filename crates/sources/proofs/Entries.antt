@@ -7,7 +7,7 @@ use Rattle.std.specs.List.{position, position_or_len}
 use Rattle.std.proofs.lemmas.Bool.{cases_lt, cases_eq, cases_Bool, leb-true, le-leb, lt-ltb, le-ltb, ltb-false, not-false, not_from_true, and_parts, and_from, eq-eqb, ne_eqb, cond-true, cond-false}
 use Rattle.feeder.specs.declared.line.Line.{Line}
 use Rattle.feeder.specs.Way.{is_in}
-use Rattle.files.proofs.Added.{everywhere}
+use Rattle.files.proofs.Bounds.{everywhere}
 use Rattle.probing.specs.declared.fault.SourceFault.{SourceFault}
 use Rattle.probing.specs.declared.fault.SourceFault.TheVariants.{InverterEntry, StandingCount, StandingEntry}
 use Rattle.probing.specs.Facts.{Facts}

@@ -6,7 +6,7 @@ use Rattle.feeder.specs.declared.line.Line.{Line}
 use Rattle.feeder.specs.Feeder.{response}
 use Rattle.feeder.specs.View.{asked}
 use Rattle.files.specs.declared.table.Table.{Table}
-use Rattle.files.specs.Numbers.{probe_of}
+use Rattle.files.specs.Tables.{probe_of}
 use Rattle.probing.specs.declared.fault.SourceFault.{SourceFault}
 use Rattle.probing.specs.declared.fault.SourceFault.TheVariants.{NoInverter, BadStep, OffSchedule}
 use Rattle.probing.specs.Answers.{admissible, first_refusal, command_of, read_of}

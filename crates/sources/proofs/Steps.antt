@@ -4,14 +4,12 @@ use Rattle.std.proofs.Common.{refl, sym, ap, subst, ◌∙◌, ⊎_elim, arith}
 use Rattle.std.proofs.Math.Path.{fun_ext}
 use Rattle.std.proofs.lemmas.List.{get_or-set_same, get_or-set_other, set_past}
 use Rattle.std.proofs.lemmas.Bool.{cases_lt, cases_eq, cases_Bool, leb-true, and_parts, cond-true, cond-false, not_from_true}
-use Rattle.files.specs.declared.table.Table.{Table}
-use Rattle.files.specs.Sound.{Sound}
-use Rattle.files.proofs.Added.{everywhere}
+use Rattle.files.proofs.Bounds.{everywhere}
 use Rattle.probing.specs.Facts.{Facts, Bounded, metered, voltage, replaced, with_settings, with_setting}
 use Rattle.probing.proofs.Voltages.{replaced_here, replaced_there}
 use Rattle.probing.specs.Answers.{read_of}
 use Rattle.sources.specs.GridFacts.{stepped, standing_heard}
-use Rattle.sources.specs.TableFacts.{setting_of, Few, Moderately, Settled}
+use Rattle.sources.specs.TableFacts.{setting_of, Settled}
 
 pub settled_set : (settings : List ℤ) (i : ℕ) (v : ℤ) → unsigned_abs v ≤ 1000 → Settled settings → Settled (slice_set settings i v)
 settled_set settings i v small settled k = ⊎_elim here past (cases_lt i (length settings))
@@ -64,13 +62,6 @@ stepped_replaced f bounds settings m v there l =
 -- every inverter on its schedule
 pub settled_none : Settled (replicate 64 (pos 0))
 settled_none k = omega (arith, ap unsigned_abs (everywhere 64 k (pos 0)))
-
--- what a table within its bounds gives a source
-pub sound_few : (t : Table) → Sound t → Few t.buses
-sound_few t s = (s.some, s.most)
-
-pub sound_moderate : (t : Table) → Sound t → Moderately t
-sound_moderate t s = λ m p n e. (s.measured m p e).moderate n
 
 -- reading a bus that is heard
 heard_cond : {T : Type 0} (b : Bool) (x v : T) → cond b (Some x) None ≡ Some v → (b ≡ true) × (v ≡ x)

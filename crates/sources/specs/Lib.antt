@@ -1,4 +1,5 @@
 pub mod TableFacts
+pub mod Tables
 pub mod GridFacts
 pub mod TableLoading
 pub mod LineFacts

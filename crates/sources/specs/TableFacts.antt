@@ -1,9 +1,7 @@
 -- The facts of a source that answers from a response table.
-use Rattle.std.specs.Prelude.{◌≡◌, ℕ, ◌-◌, ◌≤◌, Bool, cond, ◌&&◌, List, ℤ, pos, is_some, Some, None, Option, nat_le, slice_index_or, unsigned_abs}
-use Rattle.files.specs.declared.table.Probe.{Probe}
+use Rattle.std.specs.Prelude.{◌≡◌, ℕ, ◌-◌, ◌≤◌, Bool, false, cond, ◌&&◌, List, [], ℤ, pos, is_some, nat_le, slice_index_or, unsigned_abs}
 use Rattle.files.specs.declared.table.Table.{Table}
-use Rattle.files.specs.Numbers.{probe_of}
-use Rattle.files.specs.Responses.{mute_of, response_at}
+use Rattle.files.specs.Tables.{probe_of, response_in, mute_of}
 use Rattle.probing.specs.Facts.{Facts}
 
 abbrev pub within : ℕ → ℕ → Bool
@@ -12,10 +10,6 @@ within last n = nat_le 1 n && nat_le n last
 -- the buses with inverters are those that the table has a record for
 abbrev pub probed : Table → ℕ → Bool
 probed t m = within t.buses m && is_some (probe_of t m)
-
-abbrev pub response_in : Option Probe → ℕ → ℤ
-response_in (Some p) n = response_at p n
-response_in None n = pos 0
 
 -- the response of bus n to inverter m, as the table has it
 abbrev pub table_response : Table → ℕ → ℕ → ℤ
@@ -41,9 +35,17 @@ table_facts t settings =
 abbrev pub Few : ℕ → Type 0
 Few n = (1 ≤ n) × (n ≤ 64)
 
--- no response beyond 1,000,000 either way
-abbrev pub Moderately : Table → Type 0
-Moderately t = (m : ℕ) (p : Probe) (n : ℕ) → probe_of t m ≡ Some p → unsigned_abs (response_at p n) ≤ 1000000
+-- these are the responses to an inverter at bus m, bus n at place n - 1
+pub record AreResponsesTo (t : Table) (m : ℕ) (row : List ℤ) : Type 0 where
+  pub each : (n : ℕ) → 1 ≤ n → n ≤ 64 → slice_index_or row (n - 1) (pos 0) ≡ response_in (probe_of t m) n
+
+-- these are the responses of a table, those to the inverter at bus m in row m - 1
+abbrev pub AreResponsesOf : Table → List (List ℤ) → Type 0
+AreResponsesOf t rows = (m : ℕ) → 1 ≤ m → m ≤ 64 → AreResponsesTo t m (slice_index_or rows (m - 1) [])
+
+-- these marks are the mute meters of a table, bus n at place n - 1
+abbrev pub AreMuteMetersOf : Table → List Bool → Type 0
+AreMuteMetersOf t marks = (n : ℕ) → 1 ≤ n → n ≤ 64 → slice_index_or marks (n - 1) false ≡ mute_of t n
 
 -- no setting beyond 1,000 either way
 abbrev pub Settled : List ℤ → Type 0

@@ -2,7 +2,7 @@
 use Rattle.std.specs.Prelude.{◌≡◌, ℕ, List, replicate, pos, Ok, Err, Result}
 use Rattle.files.specs.declared.fault.FileFault.{FileFault}
 use Rattle.files.specs.Responses.{Reading}
-use Rattle.files.specs.Rows.{empty_table}
+use Rattle.files.specs.Tables.{empty_table}
 use Rattle.probing.specs.Facts.{Facts}
 use Rattle.sources.specs.declared.grid_source.GridSource.{GridSource}
 use Rattle.sources.specs.declared.table_source.TableGrid.{TableGrid}
@@ -16,7 +16,7 @@ facts_of s = table_facts s.grid.table s.settings.thousandths
 abbrev pub new_facts : Facts
 new_facts = table_facts (empty_table 1) (replicate 64 (pos 0))
 
--- Accepted, the place holds the file's table with every setting 0; refused, it is as it was, settings included.
-abbrev pub Loading : List ℕ → GridSource TableGrid → GridSource TableGrid → Result (Unit {0}) FileFault → Type 0
-Loading bytes old new (Ok u) = Reading bytes old.grid.table new.grid.table (Ok u) × (new.settings.thousandths ≡ replicate 64 (pos 0))
-Loading bytes old new (Err fault) = Reading bytes old.grid.table old.grid.table (Err fault) × (new ≡ old)
+-- what loading a file answers: a source of the file's table with every setting 0, or the file's fault
+abbrev pub Loads : List ℕ → Result (GridSource TableGrid) FileFault → Type 0
+Loads bytes (Ok s) = Reading bytes (Ok s.grid.table) × (s.settings.thousandths ≡ replicate 64 (pos 0))
+Loads bytes (Err fault) = Reading bytes (Err fault)

@@ -11,14 +11,14 @@ use feeder::{MOST_METERED, Map};
 
 mod making;
 
-// A source that walks the lines of a map. Every bus is metered, and no meter is mute.
+/// A source that walks the lines of a map. Every bus is metered, and no meter is mute.
 pub type FeederSource = GridSource<FeederGrid>;
 
+/// A map with what stands at its buses: inverters and standing voltages.
 #[derive(Drop)]
 pub struct FeederGrid {
     map: Map,
-    // What bus n has stands at n - 1: whether it has an inverter, and its standing voltage. Two arrays and not one of
-    // pairs, since they come from two lists of unlike lengths, and one of them is copied whole: pairs would be no plainer.
+    // What bus n has stands at n - 1: whether it has an inverter, and its standing voltage in billionths.
     inverters: [bool; MOST_METERED],
     standing: [i64; MOST_METERED],
     ghost few: { Few (length (lines_of map)) },

@@ -8,7 +8,7 @@ use crate::grid::Grid;
 use crate::settings::Settings;
 use probing::{Source, SourceFault};
 
-// A source over a grid, with a setting for each of its inverters.
+/// A source over a grid, with a setting for each of its inverters.
 #[derive(Drop)]
 pub struct GridSource<G> {
     pub(crate) grid: G,
@@ -34,7 +34,6 @@ impl<G: Grid> GridSource<G> {
     fn shares(&self, bus: usize) -> i64
         ensures { result ≡ sum_to (G.idle self.now.grid).buses (share (stepped (G.idle self.now.grid) self.now.settings.thousandths) bus) }
     {
-        // Tried as a chain of map and sum: that the signed sum may run, and what it gives, were not proved.
         let mut sum = 0;
         for inverter in 1..=self.grid.buses() {
             sum += self.share(bus, inverter);

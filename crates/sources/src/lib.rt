@@ -1,4 +1,4 @@
-// Probing sources: one that answers from a response table, and one that walks the lines of a feeder.
+//! Probing sources: one that answers from a response table, and one that walks the lines of a feeder.
 
 #![tactic(auto)]
 

@@ -3,8 +3,8 @@ ghost use Rattle.sources.specs.TableFacts.{Settled};
 
 use feeder::MOST_METERED;
 
-// How far each inverter is off its schedule, in thousandths: that of the inverter at bus m stands at m - 1. It holds no
-// `Option`s, since where inverters are is for the grid to say: a second record of it would be no plainer.
+/// How far each inverter is off its schedule, in thousandths of per unit: that of the inverter at bus m stands at m - 1, and 0 where no
+/// inverter is.
 #[derive(Clone, Copy)]
 pub struct Settings {
     thousandths: [i32; MOST_METERED],

@@ -121,5 +121,5 @@ came_back map xs ys before old r source new (drawn s made n d) accepted ended =
       metered = d'.0;
       same = λ all. maps_are_their_lines n map (d'.0 ∙ sym all) same;
       settings = λ m. ap (λ f. f.setting m) told.1;
-      file = λ before read answer reading. written_maps_are_read map before read answer (leb-true 1 (length (lines_of map)) sized.0) (leb-true (length (lines_of map)) 64 sized.1) (subst (λ F. MapReading (map_text F) before read answer) same reading);
+      file = λ answer reading. written_maps_are_read map answer (leb-true 1 (length (lines_of map)) sized.0) (leb-true (length (lines_of map)) 64 sized.1) (subst (λ F. MapReading (map_text F) answer) same reading);
     }

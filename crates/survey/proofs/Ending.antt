@@ -6,8 +6,7 @@ use Rattle.feeder.specs.declared.map.Map.{Map}
 use Rattle.feeder.specs.Table.{NoFeeder}
 use Rattle.feeder.specs.View.{DrawnMap}
 use Rattle.files.specs.declared.table.Table.{Table}
-use Rattle.files.specs.Rows.{empty_table}
-use Rattle.files.proofs.Outcomes.{reading_sound}
+use Rattle.files.proofs.Bounds.{accepted_few}
 use Rattle.probing.specs.Facts.{Facts, Bounded}
 use Rattle.probing.specs.Answers.{lowest}
 use Rattle.probing.proofs.Readings.{lowest_same}
@@ -111,6 +110,6 @@ pub ends_drawing : (bytes : List ℕ) (t : Table) → Holds bytes t → (setting
 ends_drawing bytes t holds settings e c probed kind old new answer draws =
     let P : List ℤ → Type 0 = λ s. AllProbed (table_facts t s) step (Ok c) in
     let told = subst P e probed in
-    let bounds = bounded t (reading_sound bytes (empty_table 1) t tt holds) in
-    let heard = accepted_heard bytes (empty_table 1) t holds told.0 in
+    let bounds = bounded t (accepted_few bytes t holds) in
+    let heard = accepted_heard bytes t holds told.0 in
     surveys bytes t holds heard kind old new answer (ends (facts t) bounds c told.1 kind old new answer draws)

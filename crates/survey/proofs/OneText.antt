@@ -1,10 +1,6 @@
 -- A file has one text of a kind.
-use Rattle.std.proofs.Common.{◌≡◌, ℕ, ◌+◌, ◌<◌, ◌≤◌, true, ◌⊎◌, List, ◌++◌, take, drop, is_ok, Some, None, Ok, Err, Option, Result, sym, refl, ap, ◌∙◌, subst, inl, inr, ⊎_elim, arith}
-use Rattle.std.proofs.lemmas.List.{append_assoc, take-append-drop, take-take}
-use Rattle.std.proofs.lemmas.Bool.{cases_order, both_ways}
-use Rattle.rfc4180.specs.Grammar.{File, Csv, Begins, Impossible}
-use Rattle.rfc4180.specs.Places.{Parse, records_of}
-use Rattle.rfc4180.proofs.Unique.{unique}
+use Rattle.std.proofs.Common.{◌≡◌, ℕ, ◌⊎◌, List, Some, None, Ok, Err, Option, Result, sym, refl, ap, ◌∙◌, subst, inl, inr, arith}
+use Rattle.refusals.proofs.Checks.{clash}
 use Rattle.feeder.specs.declared.line.Line.{Line}
 use Rattle.feeder.specs.declared.kind.Kind.{Kind}
 use Rattle.feeder.specs.declared.map.Map.{Map}
@@ -12,12 +8,8 @@ use Rattle.feeder.specs.Table.{Answers}
 use Rattle.feeder.specs.View.{lines_of}
 use Rattle.feeder.proofs.Alone.{answers_are_alone}
 use Rattle.files.specs.declared.fault.FileFault.{FileFault}
-use Rattle.files.specs.declared.fault.FileFault.TheVariants.{Bytes}
-use Rattle.rfc4180.specs.declared.fault.Fault.TheVariants.{Syntax}
 use Rattle.files.specs.declared.table.Table.{Table}
-use Rattle.files.specs.Responses.{Reading, long, broken, read, Outcome}
-use Rattle.files.specs.Rows.{table_of}
-use Rattle.maps.proofs.Trips.{possible}
+use Rattle.files.proofs.Outcomes.{outcomes_are_unique}
 use Rattle.probing.specs.declared.fault.SourceFault.TheVariants.{Unreadable}
 use Rattle.campaign.specs.declared.fault.CampaignFault.TheVariants.{Source}
 use Rattle.campaign.specs.declared.drawing_fault.DrawingFault.TheVariants.{InverterMissing, NoFeeder as Nowhere}
@@ -28,40 +20,6 @@ use Rattle.survey.specs.declared.fault.ProgramFault.TheVariants.{File as InFile,
 use Rattle.survey.specs.Faults.{refusal_of}
 use Rattle.survey.specs.Surveys.{Refuses, Holds, told, mute, bare, Surveys, unread, muted, unequipped, nowhere, drawn}
 use Rattle.survey.specs.Prints.{Text, drawn as drawnText, refused as refusedText, TextsAreAlone}
-
--- the front of what a file begins with begins a file
-begins_before : (bytes : List ℕ) (i j : ℕ) → i ≤ j → Begins (take j bytes) → Begins (take i bytes)
-begins_before bytes i j l (rest, csv) =
-    let front = take j bytes in
-    (drop i front ++ rest, subst Csv (ap (λ xs. xs ++ rest) (sym (take-append-drop i front)) ∙ append_assoc (take i front) (drop i front) rest ∙ ap (λ xs. xs ++ (drop i front ++ rest)) (take-take i j bytes l)) csv)
-
--- no byte behind the first impossible one is it too
-not_behind : (bytes : List ℕ) (i j : ℕ) → i < j → Impossible bytes i → Impossible bytes j → ⊥
-not_behind bytes i j l a b = a.byte (omega (arith, b.within)) (begins_before bytes (i + 1) j (omega (arith, l)) b.before)
-
-one_impossible : (bytes : List ℕ) (i j : ℕ) → Impossible bytes i → Impossible bytes j → i ≡ j
-one_impossible bytes i j a b = ⊎_elim (λ e. e) (⊎_elim (λ l. absurd (not_behind bytes i j l a b)) (λ l. absurd (not_behind bytes j i l b a))) (cases_order i j)
-
--- Bytes have one reading.
-
-outcome_one : (old new new' : Table) (r r' : Result (Unit {0}) FileFault) (o : Result Table FileFault) → Outcome old new r o → Outcome old new' r' o → (r ≡ r') × (new ≡ new')
-outcome_one old new new' r r' (Ok t) a b = (a.0 ∙ sym b.0, a.1 ∙ sym b.1)
-outcome_one old new new' r r' (Err fault) a b = (a.0 ∙ sym b.0, a.1 ∙ sym b.1)
-
-parsed : (bytes : List ℕ) (f : File) (i : ℕ) → Parse f bytes → Impossible bytes i → ⊥
-parsed bytes f i parse bad = possible bytes i (f, parse.good, parse.text) bad
-
-reading_one : (bytes : List ℕ) (old new new' : Table) (r r' : Result (Unit {0}) FileFault) → Reading bytes old new r → Reading bytes old new' r' → (r ≡ r') × (new ≡ new')
-reading_one bytes old new new' r r' (long h a) (long k b) = (a.0 ∙ sym b.0, a.1 ∙ sym b.1)
-reading_one bytes old new new' r r' (long h a) (broken j k bad b) = absurd (omega (arith, h, k))
-reading_one bytes old new new' r r' (long h a) (read g k parse b) = absurd (omega (arith, h, k))
-reading_one bytes old new new' r r' (broken i h bad a) (long k b) = absurd (omega (arith, h, k))
-reading_one bytes old new new' r r' (broken i h bad a) (broken j k bad' b) = (a.0 ∙ ap (λ n. Err (Bytes (Syntax n))) (one_impossible bytes i j bad bad') ∙ sym b.0, a.1 ∙ sym b.1)
-reading_one bytes old new new' r r' (broken i h bad a) (read g k parse b) = absurd (parsed bytes g i parse bad)
-reading_one bytes old new new' r r' (read f h parse a) (long k b) = absurd (omega (arith, h, k))
-reading_one bytes old new new' r r' (read f h parse a) (broken j k bad b) = absurd (parsed bytes f j parse bad)
-reading_one bytes old new new' r r' (read f h parse a) (read g k parse' b) =
-    outcome_one old new new' r r' (table_of (records_of f)) a (subst (λ z. Outcome old new' r' (table_of (records_of z))) (sym (unique f g bytes parse parse')) b)
 
 -- What a table's survey prints follows from the table and what a drawing of it answers.
 
@@ -106,14 +64,17 @@ found bytes kind old new r (nowhere t holds e d nothing) =
 found bytes kind old new r (drawn t holds e d map fits) =
     inr (t, holds, record { answer = Some (lines_of map); says = ap (λ o. text_by o None (Some (lines_of map))) (sym e) ∙ ap (λ o. text_by (mute t) o (Some (lines_of map))) (sym d); right = λ z x. fits.1 })
 
-same_fault : {a b : FileFault} → ◌≡◌ {A = Result (Unit {0}) FileFault} (Err a) (Err b) → a ≡ b
+same_fault : {a b : FileFault} → ◌≡◌ {A = Result Table FileFault} (Err a) (Err b) → a ≡ b
 same_fault e = cc
 
+same_table : {a b : Table} → ◌≡◌ {A = Result Table FileFault} (Ok a) (Ok b) → a ≡ b
+same_table e = cc
+
 found_one : (bytes : List ℕ) (kind : Kind) (text text' : List ℕ) → Found bytes kind text → Found bytes kind text' → text ≡ text'
-found_one bytes kind text text' (inl (a, x, p)) (inl (b, y, q)) = p ∙ ap (λ fault. refusal_text (refusal_of (InFile fault))) (same_fault (reading_one bytes _ _ _ _ _ x y).0) ∙ sym q
-found_one bytes kind text text' (inl (a, x, p)) (inr (t, y, q)) = absurd (both_ways true (sym (ap is_ok (reading_one bytes _ _ _ _ _ x y).0)) refl)
-found_one bytes kind text text' (inr (t, x, p)) (inl (b, y, q)) = absurd (both_ways true (sym (ap is_ok (reading_one bytes _ _ _ _ _ y x).0)) refl)
-found_one bytes kind text text' (inr (t, x, p)) (inr (u, y, q)) = by_one kind u text text' (subst (λ z. By kind z text) (reading_one bytes _ _ _ _ _ x y).1 p) q
+found_one bytes kind text text' (inl (a, x, p)) (inl (b, y, q)) = p ∙ ap (λ fault. refusal_text (refusal_of (InFile fault))) (same_fault (outcomes_are_unique bytes (Err a) (Err b) x y)) ∙ sym q
+found_one bytes kind text text' (inl (a, x, p)) (inr (t, y, q)) = (let e = outcomes_are_unique bytes (Err a) (Ok t) x y in clash cc)
+found_one bytes kind text text' (inr (t, x, p)) (inl (b, y, q)) = (let e = outcomes_are_unique bytes (Err b) (Ok t) y x in clash cc)
+found_one bytes kind text text' (inr (t, x, p)) (inr (u, y, q)) = by_one kind u text text' (subst (λ z. By kind z text) (same_table (outcomes_are_unique bytes (Ok t) (Ok u) x y)) p) q
 
 text_found : (bytes : List ℕ) (kind : Kind) (text : List ℕ) → Text bytes kind text → Found bytes kind text
 text_found bytes kind text (drawnText old new s) = found bytes kind old new (Ok tt) s

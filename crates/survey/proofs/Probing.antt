@@ -1,19 +1,17 @@
 -- What probing every inverter of an idle source answers, a loaded table's among them.
 use Rattle.std.proofs.Common.{◌≡◌, ℕ, ◌-◌, ◌≤◌, Bool, true, false, not, ◌&&◌, leb, List, replicate, ℤ, pos, nat_abs, is_some, is_err, Some, None, Ok, Err, Option, Result, sym, refl, ap, ◌∙◌, ⊎_elim, arith}
 use Rattle.std.proofs.lemmas.Bool.{cases_Bool, both_ways, and_parts, and_from, and_left, and_right, cond-true, cond-false, cond_both, eq-eqb, le-leb}
-use Rattle.files.specs.declared.table.Probe.{Probe}
 use Rattle.files.specs.declared.table.Table.{Table}
-use Rattle.files.specs.Sound.{Sound}
-use Rattle.files.specs.Numbers.{probe_of}
-use Rattle.files.specs.Responses.{Reading, mute_of}
-use Rattle.files.proofs.Added.{everywhere}
+use Rattle.files.specs.Tables.{probe_of, mute_of}
+use Rattle.files.specs.Responses.{Reading}
+use Rattle.files.proofs.Bounds.{everywhere, response_moderate}
 use Rattle.files.proofs.Outcomes.{mute_has_inverter}
 use Rattle.probing.specs.declared.fault.SourceFault.{SourceFault}
 use Rattle.probing.specs.declared.fault.SourceFault.TheVariants.{Unreadable}
 use Rattle.probing.specs.Facts.{Facts, Bounded, voltage}
 use Rattle.probing.specs.Answers.{on_schedule, and_then, lowest, heard, per_bus, command_of}
 use Rattle.probing.proofs.Readings.{lowest_same, lowest_fails}
-use Rattle.sources.specs.TableFacts.{within, probed, response_in, table_facts}
+use Rattle.sources.specs.TableFacts.{within, probed, table_facts, Few}
 use Rattle.campaign.specs.declared.fault.CampaignFault.TheVariants.{Source}
 use Rattle.campaign.specs.declared.fault.CampaignRefusal.{CampaignRefusal}
 use Rattle.campaign.specs.Relations.{from_source, naming}
@@ -80,32 +78,28 @@ pub on_schedule_lem : (t : Table) (m : ℕ) → (facts t).setting m ≡ pos 0
 on_schedule_lem t m = ⊎_elim (λ e. cond-true _ _ _ e ∙ everywhere 64 (m - 1) (pos 0)) (λ e. cond-false _ _ _ e) (cases_Bool (probed t m))
 
 -- an accepted probing: no meter is mute
-pub accepted_heard : (bytes : List ℕ) (old t : Table) → Reading bytes old t (Ok tt) → lowest t.buses (failing (facts t) step) ≡ None → mute t ≡ None
-accepted_heard bytes old t reading none = go (mute t) refl
+pub accepted_heard : (bytes : List ℕ) (t : Table) → Reading bytes (Ok t) → lowest t.buses (failing (facts t) step) ≡ None → mute t ≡ None
+accepted_heard bytes t reading none = go (mute t) refl
   where
     go : (o : Option ℕ) → mute t ≡ o → o ≡ None
     go None e = refl
     go (Some bus) e =
         let low = lowest_passes t.buses (mute_of t) bus e in
-        let row = (mute_has_inverter bytes old t tt reading bus low.0 low.2).1 in
+        let row = (mute_has_inverter bytes t reading bus low.2).1 in
         let has = and_from (within t.buses row.inverter) (is_some (probe_of t row.inverter)) (and_from (leb 1 row.inverter) (leb row.inverter t.buses) (le-leb 1 row.inverter row.first) (le-leb row.inverter t.buses row.last)) (ap is_some row.stands) in
         absurd (accepted_bare (facts t) (on_schedule_lem t) bus e none row.inverter row.first row.last has)
 
--- the facts of a table within its bounds are within theirs
-pub bounded : (t : Table) → Sound t → Bounded (facts t)
-bounded t s =
+-- the facts of a table of 1 to 64 buses are within their bounds
+pub bounded : (t : Table) → Few t.buses → Bounded (facts t)
+bounded t few =
     record {
-      some = s.some;
-      few = s.most;
+      some = few.0;
+      few = few.1;
       placed = λ m e. (and_parts (within t.buses m) (is_some (probe_of t m)) e).0;
-      responses = λ n m. cond_both (probed t m && within t.buses n) _ _ (λ z. nat_abs z ≤ 1000000) (λ _. small n m (probe_of t m) refl) (λ _. omega arith);
+      responses = λ n m. cond_both (probed t m && within t.buses n) _ _ (λ z. nat_abs z ≤ 1000000) (λ _. response_moderate (probe_of t m) n) (λ _. omega arith);
       standings = λ n. omega arith;
       settings = λ m. omega (arith, ap nat_abs (on_schedule_lem t m));
       unset = λ m e. on_schedule_lem t m;
       unmoved = λ n m e. cond-false _ _ _ (and_left (probed t m) (within t.buses n) e);
       outside = λ n m e. cond-false _ _ _ (and_right (probed t m) (within t.buses n) e);
     }
-  where
-    small : (n m : ℕ) (o : Option Probe) → probe_of t m ≡ o → nat_abs (response_in o n) ≤ 1000000
-    small n m (Some p) e = (s.measured m p e).moderate n
-    small n m None e = omega arith

@@ -39,4 +39,4 @@ pub record Returned (map : Map) (r : Result (Unit {0}) ProgramFault) (source : G
   -- every inverter is back on its schedule
   pub settings : (m : ℕ) → (meaning source).setting m ≡ pos 0
   -- whatever reading the drawn map's file answers, it gives the map back
-  pub file : (old read : Map) (answer : Result (Unit {0}) FileFault) → MapReading (map_text (lines_of new)) old read answer → ReadBack map read answer
+  pub file : (answer : Result Map FileFault) → MapReading (map_text (lines_of new)) answer → ReadBack map answer

@@ -7,8 +7,8 @@ use Rattle.feeder.specs.Table.{Table, NoFeeder}
 use Rattle.feeder.specs.View.{DrawnMap}
 use Rattle.files.specs.declared.fault.FileFault.{FileFault}
 use Rattle.files.specs.declared.table.Table as responses
-use Rattle.files.specs.Responses.{Reading, mute_of}
-use Rattle.files.specs.Rows.{empty_table}
+use Rattle.files.specs.Responses.{Reading}
+use Rattle.files.specs.Tables.{mute_of}
 use Rattle.probing.specs.declared.fault.SourceFault.TheVariants.{Unreadable}
 use Rattle.probing.specs.Answers.{lowest}
 use Rattle.sources.specs.TableFacts.{probed, table_facts}
@@ -20,11 +20,11 @@ use Rattle.survey.specs.declared.fault.ProgramFault.TheVariants.{File, Campaign,
 
 -- the file is refused so
 abbrev pub Refuses : List ℕ → FileFault → Type 0
-Refuses bytes fault = Reading bytes (empty_table 1) (empty_table 1) (Err fault)
+Refuses bytes fault = Reading bytes (Err fault)
 
 -- the file holds the table t
 abbrev pub Holds : List ℕ → responses.Table → Type 0
-Holds bytes t = Reading bytes (empty_table 1) t (Ok tt)
+Holds bytes t = Reading bytes (Ok t)
 
 -- the responses that a file's table tells
 abbrev pub told : responses.Table → Table

@@ -7,12 +7,16 @@ use files::FileFault;
 use probing::SourceFault;
 use refusals::Refusal;
 
-// Why a survey ends without a map.
+/// Why a survey ends without a map.
 #[derive(Clone, Copy, PartialEq, Eq, Debug)]
 pub enum ProgramFault {
+    /// The file is refused.
     File { fault: FileFault },
+    /// A source cannot be made.
     Source { fault: SourceFault },
+    /// The probing is refused, with the inverter that was named.
     Campaign { refusal: CampaignRefusal },
+    /// The drawing is refused.
     Drawing { fault: DrawingFault },
 }
 

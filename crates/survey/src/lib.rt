@@ -1,4 +1,4 @@
-// From a response file or a feeder to the map that its probing gives, or to the first refusal.
+//! From a response file or a feeder to the map that its probing gives, or to the first refusal.
 
 #![tactic(auto)]
 

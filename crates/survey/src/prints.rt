@@ -33,8 +33,8 @@ pub fn fullmap(file: &[u8], out: &mut [u8]) -> Result<usize, FileFault>
     print_survey(file, Kind::Complete, out)
 }
 
-/// The same with the reduced map. Both are one function over the kind, which one with the kind as an argument would not make plainer
-/// for a program of either.
+/// Turns the bytes of a response file into the printed reduced map, or into the printed first refusal, at the front of a buffer, and
+/// says how long the text is. A buffer that is too short stays as it was; 2,300 bytes are always enough.
 pub fn reducedmap(file: &[u8], out: &mut [u8]) -> Result<usize, FileFault>
     ensures prints { Prints file.now Reduced out.old out.new result }
     ensures room { 2300 ≤ length out.old → is_ok result ≡ true }

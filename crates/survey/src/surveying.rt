@@ -9,8 +9,8 @@ use sources::TableSource;
 // The step of each probe, in thousandths.
 pub(crate) const STEP: i32 = 100;
 
-// Reads a response file, probes each inverter in rising order and draws the feeder of the kind into the map place. The first
-// refusal ends it and leaves the place as it was.
+/// Reads a response file, probes each inverter in rising order with a step of 100 thousandths and draws the feeder of the kind into
+/// the map place. The first refusal ends it and leaves the place as it was: the file's, a mute meter's (12), or the drawing's (17, 18).
 pub fn survey_file(file: &[u8], kind: Kind, place: &mut Map) -> Result<(), ProgramFault>
     ensures { Surveys file.now kind place.old result place.new }
 {

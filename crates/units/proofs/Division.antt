@@ -1,5 +1,5 @@
 -- A response times its step is the change.
-use Rattle.std.proofs.Common.{◌≡◌, ℕ, zero, suc, ◌/◌, ◌%◌, Bool, true, false, cond, ◌&&◌, eqb, leb, ◌≢◌, ℤ, pos, negsuc, ◌*ℤ◌, neg_ℤ, nat_abs, Some, None, Option, sym, refl, ap, ◌∙◌, mul-div_cancel, arith}
+use Rattle.std.proofs.Common.{◌≡◌, ℕ, zero, suc, ◌*◌, ◌<◌, ◌/◌, ◌%◌, Bool, true, false, cond, ◌&&◌, eqb, leb, ◌≢◌, ℤ, pos, negsuc, ◌*ℤ◌, neg_ℤ, nat_abs, Some, None, Option, sym, refl, ap, ◌∙◌, mul-div_cancel, mul-pos, arith}
 use native.Mathlib.Nat.{mul-mod_left}
 use lib.Signed.{quot_z, rem_z}
 use Rattle.std.proofs.lemmas.Bool.{eqb-true, eq-eqb, ne_eqb, leb-true, le-leb, and_parts, and_from, cond-false, both_ways}
@@ -56,3 +56,37 @@ divides change step some = go (response_of change step) refl
 
     go : (r : Option ℤ) → response_of change step ≡ r → Divides change step r
     go r e = taken test refl r (sym skip ∙ e)
+
+-- A change is one response alone times the step.
+
+-- only 0 is its own opposite
+opposite : (n : ℕ) → pos n ≡ neg_ℤ (pos n) → n ≡ 0
+opposite zero e = refl
+opposite (suc n) e = absurd (let z : ◌≡◌ {A = ℕ} 0 1 = cc in omega arith)
+
+-- opposite factors give different products
+unlike : (n : ℕ) (step : ℤ) → nat_abs step ≢ 0 → pos (suc n) *ℤ step ≡ negsuc n *ℤ step → ⊥
+unlike n (pos b) some e = let none = opposite (suc n * b) e in let more = mul-pos {m = suc n} {n = b} (omega arith) (omega arith) in omega arith
+unlike n (negsuc b) some e = let none = opposite (suc n * suc b) (sym e) in let more = mul-pos {m = suc n} {n = suc b} (omega arith) (omega arith) in omega arith
+
+-- a factor that is not 0 cancels
+factor : (p q step : ℤ) → nat_abs step ≢ 0 → p *ℤ step ≡ q *ℤ step → p ≡ q
+factor p q step some e = go p q e sizes
+  where
+    sizes : nat_abs p ≡ nat_abs q
+    sizes =
+        let more : 0 < nat_abs step = omega (arith, some) in
+        sym (mul-div_cancel (nat_abs p) more) ∙ ap (λ n. n / nat_abs step) (sym (unsigned_abs-mul p step) ∙ ap nat_abs e ∙ unsigned_abs-mul q step) ∙ mul-div_cancel (nat_abs q) more
+
+    go : (p q : ℤ) → p *ℤ step ≡ q *ℤ step → nat_abs p ≡ nat_abs q → p ≡ q
+    go (pos m) (pos n) e s = ap pos s
+    go (pos m) (negsuc n) e s = absurd (unlike n step some (ap (λ k. pos k *ℤ step) (sym s) ∙ e))
+    go (negsuc m) (pos n) e s = absurd (unlike m step some (ap (λ k. pos k *ℤ step) s ∙ sym e))
+    go (negsuc m) (negsuc n) e s = ap negsuc (omega arith)
+
+pub divides_unique : (change step : ℤ) → (step ≡ pos 0 → ⊥) → (a b : Option ℤ) → Divides change step a → Divides change step b → a ≡ b
+divides_unique change step some (Some p) (Some q) (product, small) (same, moderate) =
+    ap Some (factor p q step (λ e. some (abs_zero step e)) (product ∙ sym same))
+divides_unique change step some (Some p) None (product, small) none = absurd (none p small product)
+divides_unique change step some None (Some q) none (product, small) = absurd (none q small product)
+divides_unique change step some None None p q = refl

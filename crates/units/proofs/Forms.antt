@@ -1,47 +1,57 @@
--- Cutting a text at its sign and its first point reads exactly the decimals.
-use Rattle.std.proofs.Common.{◌≡◌, ℕ, suc, ◌+◌, ◌-◌, ◌*◌, ◌^◌, ◌<◌, ◌≤◌, Bool, true, false, cond, not, ◌&&◌, eqb, ltb, leb, List, [], ◌∷◌, ◌++◌, length, get_or, take, drop, ℤ, Some, None, Option, sym, refl, ap, ◌∙◌, ⊎_elim, one-add, arith}
-use Rattle.std.proofs.lemmas.List.{drop_more, take-append-drop, take_at, drop_at, drop-drop, append-nil, length-append, take_all}
-use Rattle.std.proofs.lemmas.Bool.{cases_lt, eqb-true, leb-true, le-leb, lt-ltb, le-ltb, and_parts, and_from, cond-true, cond-false}
-use Rattle.std.proofs.lemmas.Option.{cond_some}
-use Rattle.units.specs.Decimals.{digit, digits, number, Decimal, Form, pointed, written, value, Reads, bind, number_of, is_minus, unsigned, not_point, whole_length, magnitude_of, signed, decimal_of}
+-- Cutting a text at its minus and its first point reads exactly the decimals.
+use Rattle.std.proofs.Common.{◌≡◌, ℕ, ◌+◌, ◌<◌, ◌≤◌, Bool, true, false, cond, ◌&&◌, eqb, leb, List, [], ◌∷◌, ◌++◌, length, get_or, take, drop, ℤ, Some, None, Option, sym, refl, ap, ◌∙◌, subst, ⊎_elim, one-add, arith}
+use Rattle.std.specs.Option.{option_and_then}
+use Rattle.std.specs.List.{position_or_len, before_first, after_first}
+use Rattle.std.specs.Str.{bytes_eq}
+use Rattle.std.proofs.lemmas.List.{take_at, drop_at, drop-drop, append-nil, take_all}
+use Rattle.std.proofs.lemmas.List.Sums.{split_at_first, passes_at_first}
+use Rattle.std.proofs.lemmas.Bool.{cases_lt, both_ways, eqb-true, leb-true, le-leb, lt-leb, and_parts, and_from, cond-true, cond-false}
+use Rattle.std.proofs.lemmas.Option.{cond_some, option_and_then_some}
+use Rattle.std.proofs.lemmas.Slice.Eq.{bytes_eq-Decides}
+use Rattle.units.specs.Views.{parts}
+use Rattle.units.specs.declared.decimals.Decimal.{Decimal as Held}
+use Rattle.units.specs.Decimals.{digit, digits, number, Decimal, Form, pointed, written, IsNoDecimal, value, Reads, is_number, number_of, is_minus, unsigned, is_point, cut, is_decimal, parts_of, in_units, decimal_of}
 
--- a chain of readings that succeeds succeeds at its first link
-bind_some : {T U : Type 0} (o : Option T) (k : T → Option U) (v : U) → bind o k ≡ Some v → (x : T) × (o ≡ Some x) × (k x ≡ Some v)
-bind_some None k v e = absurd (let z : ◌≡◌ {A = ℕ} 0 1 = cc in omega arith)
-bind_some (Some x) k v e = (x, refl, e)
+-- 0 is not 1, so no two constructors are one
+clash : {P : Type 0} → ◌≡◌ {A = ℕ} 0 1 → P
+clash e = absurd (omega arith)
 
-pub record Numeral (most : ℕ) (text : List ℕ) (n : ℕ) : Type 0 where
+-- Numbers.
+
+-- one to `most` digits
+pub record Numeral (most : ℕ) (text : List ℕ) : Type 0 where
   pub some : 1 ≤ length text
   pub few : length text ≤ most
   pub digital : digits text ≡ true
-  pub is : n ≡ number text
 
-pub number_form : (most : ℕ) (text : List ℕ) (n : ℕ) → number_of most text ≡ Some n → Numeral most text n
-number_form most text n e =
-    let cut = cond_some ((leb 1 (length text) && leb (length text) most) && digits text) (number text) n e in
-    let outer = and_parts (leb 1 (length text) && leb (length text) most) (digits text) cut.0 in
+pub is_number-true : (most : ℕ) (text : List ℕ) → is_number most text ≡ true → Numeral most text
+is_number-true most text e =
+    let outer = and_parts (leb 1 (length text) && leb (length text) most) (digits text) e in
     let inner = and_parts (leb 1 (length text)) (leb (length text) most) outer.0 in
-    record { some = leb-true 1 (length text) inner.0; few = leb-true (length text) most inner.1; digital = outer.1; is = sym cut.1 }
+    record { some = leb-true 1 (length text) inner.0; few = leb-true (length text) most inner.1; digital = outer.1 }
+
+pub number-true : (most : ℕ) (text : List ℕ) → 1 ≤ length text → length text ≤ most → digits text ≡ true → is_number most text ≡ true
+number-true most text l m d =
+    and_from _ _ (and_from _ _ (le-leb 1 (length text) l) (le-leb (length text) most m)) d
 
 pub form_number : (most : ℕ) (text : List ℕ) → 1 ≤ length text → length text ≤ most → digits text ≡ true → number_of most text ≡ Some (number text)
-form_number most text l m d =
-    cond-true _ _ _ (and_from _ _ (and_from _ _ (le-leb 1 (length text) l) (le-leb (length text) most m)) d)
+form_number most text l m d = cond-true _ _ _ (number-true most text l m d)
+
+-- The cut.
 
 -- no digit is a point or a minus
-digit_no_point : (b : ℕ) → digit b ≡ true → not_point b ≡ true
+digit_no_point : (b : ℕ) → digit b ≡ true → is_point b ≡ false
 digit_no_point b h = grind arith
 
 digit_no_minus : (b : ℕ) → digit b ≡ true → eqb b 0x2D ≡ false
 digit_no_minus b h = grind arith
 
 -- digits in front, then the end or a point
-pub cut_at : (xs ys : List ℕ) → digits xs ≡ true → whole_length ys ≡ 0 → whole_length (xs ++ ys) ≡ length xs
+cut_at : (xs ys : List ℕ) → digits xs ≡ true → position_or_len is_point ys ≡ 0 → position_or_len is_point (xs ++ ys) ≡ length xs
 cut_at [] ys d e = e
 cut_at (x ∷ xs) ys d e =
     let parts = and_parts (digit x) (digits xs) d in
-    cond-true _ _ _ (digit_no_point x parts.0) ∙ one-add (whole_length (xs ++ ys)) ∙ ap suc (cut_at xs ys parts.1 e)
-
--- Every decimal reads as its value.
+    rw (digit_no_point x parts.0, cut_at xs ys parts.1 e) (one-add (length xs))
 
 first_digit : (xs ys : List ℕ) → digits xs ≡ true → 1 ≤ length xs → is_minus (xs ++ ys) ≡ false
 first_digit [] ys d l = absurd (omega arith)
@@ -55,64 +65,67 @@ body_read : (minus : Bool) (body : List ℕ) → is_minus body ≡ false → uns
 body_read true body h = refl
 body_read false body h = cond-false _ _ _ h
 
--- the size by the parts that the cut leaves
-abbrev parted : ℕ → List ℕ → Bool → List ℕ → Option ℕ
-parted places whole more fraction =
-    bind (number_of 4 whole) (λ w.
-    cond more (bind (number_of places fraction) (λ f. Some (w * 10 ^ places + f * 10 ^ (places - length fraction)))) (Some (w * 10 ^ places)))
+no_point : (fraction : List ℕ) → position_or_len is_point (pointed fraction) ≡ 0
+no_point [] = refl
+no_point (b ∷ bs) = refl
 
-parted_same : (places : ℕ) {v w : List ℕ} {m n : Bool} {f g : List ℕ} → v ≡ w → m ≡ n → f ≡ g → parted places v m f ≡ parted places w n g
-parted_same places {v} {w} {m} {n} {f} {g} p q r = ap (λ x. parted places x m f) p ∙ ap (λ x. parted places w x f) q ∙ ap (λ x. parted places w n x) r
+behind : (fraction : List ℕ) → drop 1 (pointed fraction) ≡ fraction
+behind [] = refl
+behind (b ∷ bs) = refl
 
-whole_only : (places : ℕ) (whole fraction : List ℕ) → number_of 4 whole ≡ Some (number whole) → parted places whole false fraction ≡ Some (number whole * 10 ^ places + 0 * 10 ^ (places - 0))
-whole_only places whole fraction e =
-    ap (λ o. bind o (λ w. Some (w * 10 ^ places))) e ∙ ap Some (omega arith)
+abbrev made : Bool → List ℕ → List ℕ → Decimal
+made minus whole fraction = record { minus = minus; whole = whole; fraction = fraction }
 
-with_fraction : (places : ℕ) (whole fraction : List ℕ) → number_of 4 whole ≡ Some (number whole) → number_of places fraction ≡ Some (number fraction) →
-    parted places whole true fraction ≡ Some (number whole * 10 ^ places + number fraction * 10 ^ (places - length fraction))
-with_fraction places whole fraction e f =
-    ap (λ o. bind o (λ w. bind (number_of places fraction) (λ n. Some (w * 10 ^ places + n * 10 ^ (places - length fraction))))) e ∙
-    ap (λ o. bind o (λ n. Some (number whole * 10 ^ places + n * 10 ^ (places - length fraction)))) f
-
--- the size of digits and a fraction that follow one another
-size_read : (places : ℕ) (whole fraction : List ℕ) → number_of 4 whole ≡ Some (number whole) → digits whole ≡ true → digits fraction ≡ true → length fraction ≤ places →
-    magnitude_of places (whole ++ pointed fraction) ≡ Some (number whole * 10 ^ places + number fraction * 10 ^ (places - length fraction))
-size_read places whole [] e d f l =
-    let cut = cut_at whole [] d refl in
-    let front = ap (λ n. take n (whole ++ [])) cut ∙ take_at whole [] (length whole) refl in
-    let ends : ltb (whole_length (whole ++ [])) (length (whole ++ [])) ≡ false = le-ltb _ _ (omega (arith, length-append whole [])) in
-    parted_same places front ends refl ∙ whole_only places whole (drop (whole_length (whole ++ []) + 1) (whole ++ [])) e
-size_read places whole (b ∷ bs) e d f l =
-    let cut = cut_at whole (0x2E ∷ b ∷ bs) d refl in
-    let text = whole ++ 0x2E ∷ b ∷ bs in
-    let front = ap (λ n. take n text) cut ∙ take_at whole (0x2E ∷ b ∷ bs) (length whole) refl in
-    let goes : ltb (whole_length text) (length text) ≡ true = lt-ltb _ _ (omega (arith, length-append whole (0x2E ∷ b ∷ bs))) in
-    let back = ap (λ n. drop (n + 1) text) cut ∙ sym (drop-drop 1 (length whole) text) ∙ ap (drop 1) (drop_at whole (0x2E ∷ b ∷ bs) (length whole) refl) in
-    parted_same places front goes back ∙ with_fraction places whole (b ∷ bs) e (form_number places (b ∷ bs) (omega arith) l f)
-
-pub reads_value : (places : ℕ) (d : Decimal) → Form places d → decimal_of places (written d) ≡ Some (value places d)
-reads_value places d form =
+-- the cut of what a decimal writes is the decimal
+pub cut-written : (d : Decimal) → digits d.whole ≡ true → 1 ≤ length d.whole → cut (written d) ≡ d
+cut-written d digital some =
     let body = d.whole ++ pointed d.fraction in
-    let plain = first_digit d.whole (pointed d.fraction) form.whole form.some in
-    let sized = size_read places d.whole d.fraction (form_number 4 d.whole form.some form.four form.whole) form.whole form.fraction form.fine in
-    ap (λ text. bind (magnitude_of places text) (λ n. Some (signed (is_minus (written d)) n))) (body_read d.minus body plain) ∙
-    ap (λ minus. bind (magnitude_of places body) (λ n. Some (signed minus n))) (sign_read d.minus body plain) ∙
-    ap (λ o. bind o (λ n. Some (signed d.minus n))) sized
+    let plain = first_digit d.whole (pointed d.fraction) digital some in
+    let at = cut_at d.whole (pointed d.fraction) digital (no_point d.fraction) in
+    let front : before_first is_point body ≡ d.whole = ap (λ n. take n body) at ∙ take_at d.whole (pointed d.fraction) (length d.whole) refl in
+    let back : after_first is_point body ≡ d.fraction =
+    ap (λ n. drop (n + 1) body) at ∙ sym (drop-drop 1 (length d.whole) body) ∙ ap (drop 1) (drop_at d.whole (pointed d.fraction) (length d.whole) refl) ∙ behind d.fraction in
+    ap (λ minus. made minus (before_first is_point (unsigned (written d))) (after_first is_point (unsigned (written d)))) (sign_read d.minus body plain) ∙
+    ap (λ text. made d.minus (before_first is_point text) (after_first is_point text)) (body_read d.minus body plain) ∙
+    ap (λ whole. made d.minus whole (after_first is_point body)) front ∙
+    ap (λ fraction. made d.minus d.whole fraction) back
 
--- Every text that reads is a decimal's.
+-- a text is written by one decimal alone
+pub written_injective : (m n : ℕ) (d e : Decimal) → Form m d → Form n e → written d ≡ written e → d ≡ e
+written_injective m n d e p q h = sym (cut-written d p.whole p.some) ∙ ap cut h ∙ cut-written e q.whole q.some
 
-at_point : (xs : List ℕ) → whole_length xs < length xs → get_or xs (whole_length xs) 0 ≡ 0x2E
-at_point [] l = absurd (omega arith)
-at_point (x ∷ xs) l = go (at_point xs) (eqb x 0x2E) refl l
-  where
-    go : (whole_length xs < length xs → get_or xs (whole_length xs) 0 ≡ 0x2E) →
-        (t : Bool) → eqb x 0x2E ≡ t → cond (not t) (1 + whole_length xs) 0 < suc (length xs) → get_or (x ∷ xs) (cond (not t) (1 + whole_length xs) 0) 0 ≡ 0x2E
-    go ih true e h = eqb-true x 0x2E e
-    go ih false e h = ap (λ n. get_or (x ∷ xs) n 0) (one-add (whole_length xs)) ∙ ih (omega arith)
+-- The parts of a text.
 
--- what stands behind the cut: nothing, or the point and the fraction
-behind : (xs : List ℕ) → whole_length xs < length xs → drop (whole_length xs) xs ≡ 0x2E ∷ drop (whole_length xs + 1) xs
-behind xs l = drop_more xs (whole_length xs) 0 l ∙ ap (λ b. b ∷ drop (whole_length xs + 1) xs) (at_point xs l)
+-- whether a text writes the parts
+abbrev fits : Decimal → List ℕ → Bool
+fits d text = (is_number 4 d.whole && digits d.fraction) && bytes_eq (written d) text
+
+-- the text that a decimal writes has its parts
+pub parts_of-written : (places : ℕ) (d : Decimal) → Form places d → parts_of (written d) ≡ Some d
+parts_of-written places d form =
+    let same = cut-written d form.whole form.some in
+    let shape = and_from (is_number 4 d.whole) (digits d.fraction) (number-true 4 d.whole form.some form.four form.whole) form.fraction in
+    let fit : fits d (written d) ≡ true = and_from (is_number 4 d.whole && digits d.fraction) (bytes_eq (written d) (written d)) shape ((bytes_eq-Decides (written d) (written d)).1 refl) in
+    cond-true _ _ _ (ap (λ e. fits e (written d)) same ∙ fit) ∙ ap Some same
+
+-- the parts of the decimal that a text writes
+pub record Parts (text : List ℕ) (d : Decimal) : Type 0 where
+  pub form : (places : ℕ) → length d.fraction ≤ places → Form places d
+  pub same : written d ≡ text
+
+pub parts_of-some : (text : List ℕ) (d : Decimal) → parts_of text ≡ Some d → Parts text d
+parts_of-some text d e =
+    let found = cond_some (is_decimal text) (cut text) d e in
+    let fit : fits d text ≡ true = ap (λ c. fits c text) (sym found.1) ∙ found.0 in
+    let outer = and_parts (is_number 4 d.whole && digits d.fraction) (bytes_eq (written d) text) fit in
+    let inner = and_parts (is_number 4 d.whole) (digits d.fraction) outer.0 in
+    let whole = is_number-true 4 d.whole inner.0 in
+    record {
+      form = λ places fine. record { whole = whole.digital; some = whole.some; four = whole.few; fraction = inner.1; fine = fine };
+      same = (bytes_eq-Decides (written d) text).0 outer.1;
+    }
+
+-- What the code cuts.
 
 signed_text : (text : List ℕ) → cond (is_minus text) (0x2D ∷ []) [] ++ unsigned text ≡ text
 signed_text [] = refl
@@ -122,73 +135,98 @@ signed_text (x ∷ xs) = go (eqb x 0x2D) refl
     go true e = ap (λ b. b ∷ xs) (sym (eqb-true x 0x2D e))
     go false e = refl
 
--- a body that has a size, by its parts
-record Parts (places : ℕ) (body : List ℕ) (n : ℕ) : Type 0 where
-  whole : List ℕ
-  fraction : List ℕ
-  form : (minus : Bool) → Form places (record { minus = minus; whole = whole; fraction = fraction })
-  text : whole ++ pointed fraction ≡ body
-  is : n ≡ number whole * 10 ^ places + number fraction * 10 ^ (places - length fraction)
-
-pointed_some : (xs : List ℕ) → 1 ≤ length xs → pointed xs ≡ 0x2E ∷ xs
+pub pointed_some : (xs : List ℕ) → 1 ≤ length xs → pointed xs ≡ 0x2E ∷ xs
 pointed_some [] l = absurd (omega arith)
 pointed_some (x ∷ xs) l = refl
 
-parts : (places : ℕ) (body : List ℕ) (n : ℕ) → magnitude_of places body ≡ Some n → Parts places body n
-parts places body n e = go (bind_some (number_of 4 (take cut body)) _ n e)
+-- a text with digits behind its point is written by its cut
+pub cut_with_point : (text : List ℕ) → position_or_len is_point (unsigned text) < length (unsigned text) → is_number 9 (cut text).fraction ≡ true → written (cut text) ≡ text
+cut_with_point text goes digital =
+    let body = unsigned text in
+    let at = eqb-true (get_or body (position_or_len is_point body) 0) 0x2E (passes_at_first is_point body 0 goes) in
+    let split = split_at_first is_point body 0 goes ∙ ap (λ b. before_first is_point body ++ (b ∷ after_first is_point body)) at in
+    let joined = ap (λ t. before_first is_point body ++ t) (pointed_some (after_first is_point body) (is_number-true 9 (after_first is_point body) digital).some) ∙ sym split in
+    ap (λ t. cond (is_minus text) (0x2D ∷ []) [] ++ t) joined ∙ signed_text text
+
+-- a text with no point is its minus and its digits
+pub cut_with_none : (text : List ℕ) → length (unsigned text) ≤ position_or_len is_point (unsigned text) → written (made (is_minus text) (cut text).whole []) ≡ text
+cut_with_none text ends =
+    let body = unsigned text in
+    ap (λ t. cond (is_minus text) (0x2D ∷ []) [] ++ t) (append-nil (before_first is_point body) ∙ take_all (position_or_len is_point body) body ends) ∙ signed_text text
+
+-- the cut of a text that a decimal is written as
+cut_same : (text : List ℕ) (places : ℕ) (d : Decimal) → Form places d → written d ≡ text → cut text ≡ d
+cut_same text places d form same = ap cut (sym same) ∙ cut-written d form.whole form.some
+
+-- no decimal is written so where no digits, or too many, stand in front
+pub no_whole : (text : List ℕ) → is_number 4 (cut text).whole ≡ false → IsNoDecimal 9 text
+no_whole text none d form same =
+    let e = ap (λ c. is_number 4 c.whole) (cut_same text 9 d form same) in
+    both_ways (is_number 4 d.whole) (sym e ∙ none) (number-true 4 d.whole form.some form.four form.whole)
+
+-- nor where there is a point with no digits, or too many, behind it
+pub no_fraction : (text : List ℕ) → position_or_len is_point (unsigned text) < length (unsigned text) → is_number 9 (cut text).fraction ≡ false → IsNoDecimal 9 text
+no_fraction text goes none d form same = go d.fraction refl
   where
-    cut : ℕ
-    cut = whole_length body
+    body : unsigned text ≡ d.whole ++ pointed d.fraction
+    body = ap unsigned (sym same) ∙ body_read d.minus (d.whole ++ pointed d.fraction) (first_digit d.whole (pointed d.fraction) form.whole form.some)
 
-    rest : List ℕ
-    rest = drop (cut + 1) body
+    here : position_or_len is_point (unsigned text) ≡ length d.whole
+    here = ap (position_or_len is_point) body ∙ cut_at d.whole (pointed d.fraction) form.whole (no_point d.fraction)
 
-    front : (w : ℕ) → number_of 4 (take cut body) ≡ Some w → Numeral 4 (take cut body) w
-    front w e = number_form 4 (take cut body) w e
+    go : (fraction : List ℕ) → d.fraction ≡ fraction → ⊥
+    go [] e = let k = ap length (body ∙ ap (λ f. d.whole ++ pointed f) e ∙ append-nil d.whole) in omega (arith, here)
+    go (x ∷ xs) e =
+        let k = ap length e in
+        both_ways (is_number 9 d.fraction) (ap (λ c. is_number 9 c.fraction) (sym (cut_same text 9 d form same)) ∙ none)
+        (number-true 9 d.fraction (omega arith) form.fine form.fraction)
 
-    split : (w : ℕ) → number_of 4 (take cut body) ≡ Some w → cut < length body →
-        bind (number_of places rest) (λ f. Some (w * 10 ^ places + f * 10 ^ (places - length rest))) ≡ Some n → Parts places body n
-    split w e l h =
-        let found = bind_some (number_of places rest) _ n h in
-        let back = number_form places rest found.0 found.1 in
-        let same : n ≡ w * 10 ^ places + found.0 * 10 ^ (places - length rest) = (let k = found.2 in cc) in
-        record {
-          whole = take cut body;
-          fraction = rest;
-          form = λ minus. record { whole = (front w e).digital; some = (front w e).some; four = (front w e).few; fraction = back.digital; fine = back.few };
-          text = ap (λ t. take cut body ++ t) (pointed_some rest back.some ∙ sym (behind body l)) ∙ take-append-drop cut body;
-          is = same ∙ ap (λ v. v * 10 ^ places + found.0 * 10 ^ (places - length rest)) (front w e).is ∙ ap (λ v. number (take cut body) * 10 ^ places + v * 10 ^ (places - length rest)) back.is;
-        }
+-- Every decimal reads as its value, and every text that reads is a decimal's.
 
-    whole_part : (w : ℕ) → number_of 4 (take cut body) ≡ Some w → length body ≤ cut → Some (w * 10 ^ places) ≡ Some n → Parts places body n
-    whole_part w e l h =
-        let same : n ≡ w * 10 ^ places = cc in
-        record {
-          whole = take cut body;
-          fraction = [];
-          form = λ minus. record { whole = (front w e).digital; some = (front w e).some; four = (front w e).few; fraction = refl; fine = omega arith };
-          text = append-nil (take cut body) ∙ take_all cut body l;
-          is = same ∙ ap (λ v. v * 10 ^ places) (front w e).is ∙ omega arith;
-        }
-
-    go : (w : ℕ) × (number_of 4 (take cut body) ≡ Some w) × (cond (ltb cut (length body)) (bind (number_of places rest) (λ f. Some (w * 10 ^ places + f * 10 ^ (places - length rest)))) (Some (w * 10 ^ places)) ≡ Some n) → Parts places body n
-    go (w, e, h) =
-        ⊎_elim (λ l. split w e l (sym (cond-true _ _ _ (lt-ltb cut (length body) l)) ∙ h)) (λ l. whole_part w e l (sym (cond-false _ _ _ (le-ltb cut (length body) l)) ∙ h)) (cases_lt cut (length body))
+pub reads_value : (places : ℕ) (d : Decimal) → Form places d → decimal_of places (written d) ≡ Some (value places d)
+reads_value places d form =
+    ap (option_and_then (in_units places)) (parts_of-written places d form) ∙ cond-true _ _ _ (le-leb (length d.fraction) places form.fine)
 
 pub value_reads : (places : ℕ) (text : List ℕ) (v : ℤ) → decimal_of places text ≡ Some v → (d : Decimal) × Form places d × (written d ≡ text) × (v ≡ value places d)
-value_reads places text v e =
-    let found = bind_some (magnitude_of places (unsigned text)) _ v e in
-    let p = parts places (unsigned text) found.0 found.1 in
-    let same : v ≡ signed (is_minus text) found.0 = (let k = found.2 in cc) in (
-      record { minus = is_minus text; whole = p.whole; fraction = p.fraction },
-      p.form (is_minus text),
-      ap (λ t. cond (is_minus text) (0x2D ∷ []) [] ++ t) p.text ∙ signed_text text,
-      same ∙ ap (signed (is_minus text)) p.is,
-    )
+value_reads places text v e = option_and_then_some (in_units places) (parts_of text) v e found
+  where
+    found : (d : Decimal) → parts_of text ≡ Some d → in_units places d ≡ Some v → (d : Decimal) × Form places d × (written d ≡ text) × (v ≡ value places d)
+    found d p u =
+        let parts = parts_of-some text d p in
+        let units = cond_some (leb (length d.fraction) places) (value places d) v u in
+        (d, parts.form places (leb-true (length d.fraction) places units.0), parts.same, sym units.1)
 
 pub reads : (places : ℕ) (text : List ℕ) → Reads places text (decimal_of places text)
 reads places text = go (decimal_of places text) refl
   where
     go : (r : Option ℤ) → decimal_of places text ≡ r → Reads places text r
     go (Some v) e = value_reads places text v e
-    go None e = λ d form t. let k = reads_value places d form in let m = ap (decimal_of places) t in let z : ◌≡◌ {A = ℕ} 0 1 = cc in omega arith
+    go None e = λ d form t. clash (let k = reads_value places d form in let m = ap (decimal_of places) t in cc)
+
+-- The value by the parts that the code reads, which has at most nine digits behind the point, as every scale has.
+
+pub parsed_none : (places : ℕ) (text : List ℕ) → places ≤ 9 → IsNoDecimal 9 text → decimal_of places text ≡ None
+parsed_none places text few none = go (parts_of text) refl
+  where
+    go : (r : Option Decimal) → parts_of text ≡ r → option_and_then (in_units places) (parts_of text) ≡ None
+    go None e = ap (option_and_then (in_units places)) e
+    go (Some d) e =
+        let parts = parts_of-some text d e in
+        let coarse : 9 < length d.fraction = ⊎_elim (λ more. more) (λ fine. absurd (none d (parts.form 9 fine) parts.same)) (cases_lt 9 (length d.fraction)) in
+        ap (option_and_then (in_units places)) e ∙ cond-false _ _ _ (lt-leb (length d.fraction) places (omega arith))
+
+pub parsed_some : (places : ℕ) (text : List ℕ) (d : Held) → Form 9 (parts d) → written (parts d) ≡ text → in_units places (parts d) ≡ decimal_of places text
+parsed_some places text d form same =
+    ap (option_and_then (in_units places)) (sym (parts_of-written 9 (parts d) form)) ∙ ap (decimal_of places) same
+
+-- the same of a result that is the value
+pub result_reads : (places : ℕ) (text : List ℕ) (r : Option ℤ) → r ≡ decimal_of places text → Reads places text r
+result_reads places text r e = subst (Reads places text) (sym e) (reads places text)
+
+-- A text reads as one thing alone.
+pub reads_unique : (places : ℕ) (text : List ℕ) (a b : Option ℤ) → Reads places text a → Reads places text b → a ≡ b
+reads_unique places text (Some v) (Some w) (d, p, s, x) (e, q, t, y) =
+    ap Some (x ∙ ap (value places) (written_injective places places d e p q (s ∙ sym t)) ∙ sym y)
+reads_unique places text (Some v) None (d, p, s, x) none = absurd (none d p s)
+reads_unique places text None (Some w) none (e, q, t, y) = absurd (none e q t)
+reads_unique places text None None p q = refl

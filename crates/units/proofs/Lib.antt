@@ -1,3 +1,5 @@
 pub mod Forms
+pub mod Buses
 pub mod Signs
 pub mod Division
+pub mod PerUnits

@@ -1,2 +1,4 @@
 pub mod Decimals
+pub mod PerUnits
 pub mod Quotients
+pub mod Views

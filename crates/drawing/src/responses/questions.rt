@@ -13,8 +13,7 @@ impl Responses {
         self.buses
     }
 
-    // Whether a bus has an inverter. It asks for the bounds of the bus, here and below: with none it would answer for buses that
-    // there are not, which is no plainer.
+    // Whether a bus has an inverter.
     pub(crate) fn has_inverter(&self, bus: usize) -> bool
         requires some { 0 < bus }
         requires few { bus ≤ 64 }

@@ -22,7 +22,7 @@ pub(crate) fn read_columns(columns: &Columns) -> Option<Responses>
     Some(Responses { buses, columns })
 }
 
-// The columns of the metered buses. `array::try_from_fn` is no plainer: it asks for a Result, and for a test of each place.
+// The columns of the metered buses.
 fn unsigned_columns(columns: &Columns) -> Option<[Option<[u32; MOST_METERED]>; MOST_METERED]>
     requires { columns.now.buses ≤ 64 }
     ensures { MatchOption result (WrongEntry columns.now) (λ u. ReadTo columns.now columns.now.buses u) }
@@ -36,7 +36,7 @@ fn unsigned_columns(columns: &Columns) -> Option<[Option<[u32; MOST_METERED]>; M
     Some(unsigned)
 }
 
-// The first entries of a column. Here too `array::try_from_fn` would ask for a Result, and for a test of each place.
+// The first entries of a column.
 fn unsigned_column(column: &[i64; MOST_METERED], buses: usize) -> Option<[u32; MOST_METERED]>
     requires { buses ≤ 64 }
     ensures { MatchOption result ((n : ℕ) × (n < buses) × Wrong (slice_index_or column.now n (pos 0))) (λ u. ((n : ℕ) → n < buses → slice_index_or column.now n (pos 0) ≡ pos (slice_index u n)) × ((n : ℕ) → n < buses → slice_index u n ≤ 1000000)) }

@@ -38,7 +38,6 @@ impl Way<'_> {
     {
         let responses = self.metered.responses;
         let mut floor = 0;
-        // Tried as a chain of filter, map and max: that max may run, and what it gives, were not proved.
         for k in 1..self.inverter {
             if responses.has_inverter(k) {
                 let entry = responses.entry(k, self.inverter);
@@ -67,8 +66,6 @@ impl Way<'_> {
         let from = self.floor().max(above);
         let end = responses.entry(self.inverter, self.inverter);
         let mut next = end;
-        // Tried as a chain of filters and min: that min may run, and what it gives, were not proved. Tried with `1..=` too, where the loop
-        // ends in two ways: what it gives in one of them was not proved.
         for k in 1..responses.buses() + 1 {
             if responses.has_inverter(k) {
                 let candidate = responses.entry(k, self.inverter);

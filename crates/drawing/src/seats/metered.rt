@@ -13,7 +13,6 @@ use arrayvec::ArrayVec;
 pub(crate) fn metered_seats(responses: &Responses) -> Option<Seats>
     ensures { MatchOption result ((n : ℕ) × Meter (entries_of responses.now) n × EmptyRow (entries_of responses.now) n) (λ s. MeteredSeats (entries_of responses.now) s.items) }
 {
-    // A `for` below: `collect` takes an allocator, and `extend` would stop at no empty row.
     let mut seats = ArrayVec::new();
     seats.push(Seat::default());
     for bus in 1..=responses.buses() {
@@ -22,7 +21,7 @@ pub(crate) fn metered_seats(responses: &Responses) -> Option<Seats>
     Some(seats)
 }
 
-// The seat of one metered bus. A chain would run backwards, since `max_by_key` takes the last of equal ones: it is no plainer.
+// The seat of one metered bus.
 fn row_seat(responses: &Responses, bus: usize) -> Option<Seat>
     requires { Meter (entries_of responses.now) bus }
     ensures { MatchOption result (EmptyRow (entries_of responses.now) bus) (λ s. SeatsRow (entries_of responses.now) bus s) }

@@ -24,7 +24,6 @@ impl Map {
         ensures counting { Pigeonhole × WaysAreShort }
         ensures drawn { AnswersAreAlone }
     {
-        // With map_err and `?` in place of `else`, the facts of the map were not proved.
         let Ok(own_lines) = ArrayVec::try_from(lines) else {
             return Err(Fault::TooMany);
         };
@@ -85,7 +84,6 @@ impl SoundLines<'_> {
         requires { length self.lines.now ≤ 127 }
         ensures { MatchResult result (λ ds. Tabled self.entry.lines.now ds.items) (λ e. (b : ℕ) × (e ≡ Fault.Beyond b) × Lowest self.entry.lines.now (IsBeyond self.entry.lines.now) b) }
     {
-        // A `for`: `collect` takes an allocator, of which these crates have none, and `extend` stops at no fault.
         let mut distances = ArrayVec::new();
         for bus in 0..=self.lines.len() {
             distances.push(self.reach(bus).ok_or(Fault::Beyond(bus))?);

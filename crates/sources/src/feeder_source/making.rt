@@ -10,7 +10,7 @@ use feeder::{Line, MOST_METERED, Map};
 use probing::SourceFault;
 
 impl FeederSource {
-    // A new place: one metered bus at distance 1 reading 0, and no inverter.
+    /// A new place: one metered bus at distance 1 reading 0, and no inverter.
     pub fn new() -> FeederSource
         ensures { meaning result ≡ new_feeder }
     {
@@ -24,8 +24,9 @@ impl FeederSource {
         }
     }
 
-    // Fills the place with the map's lines and what is listed, with every setting 0; refused, it is as it was. The map and the lists
-    // are plain arguments: a struct of the three would be no plainer, since only a survey hands them on.
+    /// Fills the place with the map's lines, the buses that have inverters, and a standing voltage for each bus in billionths of per unit,
+    /// with every setting 0; refused with 21, it is as it was. In this order: the map has 1 to 64 buses; each inverter is one of
+    /// them, and listed once; there is a standing voltage for each bus, within 1,000,000,000 either way.
     pub fn make(
         &mut self,
         map: &Map,
@@ -72,7 +73,7 @@ fn same_lines(map: &Map) -> Map
     Map::from_lines(map.buses(), map.lines()).unwrap()
 }
 
-// That there are at most 64 buses is asked by clauses, here and where else places are counted: a type for the count would wrap one number.
+// Whether a listed inverter is no bus, or is listed before.
 fn is_misplaced(buses: usize, marks: &[bool; MOST_METERED], bus: usize) -> bool
     requires { buses ≤ 64 }
     ensures { result ≡ not (within buses bus && not (slice_index_or marks.now (bus - 1) false)) }

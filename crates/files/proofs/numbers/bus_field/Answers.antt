@@ -7,4 +7,4 @@ use Rattle.files.proofs.numbers.bus_field.Goals as goal
 pub returns : goal.returns
 returns c =
     let content = (piece c.args.field).content in
-    c.bus_number.ensures ∙ ap bus_of (sym (text_some content c.in_ok-text.field-0.now c.in_ok-text.ensures))
+    c.bus_number.ensures.value ∙ ap bus_of (sym (text_some content c.in_ok-text.field-0.now c.in_ok-text.ensures))

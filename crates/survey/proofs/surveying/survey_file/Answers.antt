@@ -1,7 +1,5 @@
 use Rattle.std.proofs.Common.{Ok, Err}
 use Rattle.std.proofs.lemmas.Result.{err_from_is_err_and}
-use Rattle.files.specs.Rows.{empty_table}
-use Rattle.files.proofs.Outcomes.{reading_over, refused_over}
 use Rattle.survey.specs.Surveys.{unread}
 use Rattle.survey.proofs.Ending.{ends_muted, ends_drawing}
 use Rattle.survey.proofs.surveying.survey_file.Goals as goal
@@ -10,7 +8,7 @@ pub returns-in_err-load : goal.returns-in_err-load
 returns-in_err-load c =
     let p = err_from_is_err_and c.from_residual.result c.from_residual.ensures.1 in
     let told = c.in_err-load.ensures in
-    rw (p.1, p.2) (unread c.in_err-load.field-0.0 (refused_over c.args.file.now _ _ (empty_table 1) c.in_err-load.field-0.0 told.0))
+    rw (p.1, p.2) (unread c.in_err-load.field-0.0 told.0)
 
 pub returns-in_err-campaign : goal.returns-in_err-campaign
 returns-in_err-campaign c =
@@ -18,7 +16,7 @@ returns-in_err-campaign c =
     let loaded = c.in_ok-load.ensures in
     let source = c.load.new.self in
     rw (p.1, p.2)
-    (ends_muted c.args.file.now c.args.kind c.args.place.now source.grid.table (reading_over c.args.file.now c.new-source.result.grid.table source.grid.table (empty_table 1) tt loaded.0) source.settings.thousandths loaded.1 c.in_err-campaign.field-0.0 c.in_err-campaign.ensures.answers)
+    (ends_muted c.args.file.now c.args.kind c.args.place.now source.grid.table loaded.0 source.settings.thousandths loaded.1 c.in_err-campaign.field-0.0 c.in_err-campaign.ensures.answers)
 
 pub returns-in_err-draw_campaign : goal.returns-in_err-draw_campaign
 returns-in_err-draw_campaign c =
@@ -26,10 +24,10 @@ returns-in_err-draw_campaign c =
     let loaded = c.in_ok-load.ensures in
     let source = c.load.new.self in
     rw (p.1, p.2)
-    (ends_drawing c.args.file.now source.grid.table (reading_over c.args.file.now c.new-source.result.grid.table source.grid.table (empty_table 1) tt loaded.0) source.settings.thousandths loaded.1 c.in_ok-campaign.campaign c.in_ok-campaign.ensures.answers c.args.kind c.args.place.now c.draw_campaign.new.place (Err c.in_err-draw_campaign.field-0.0) c.in_err-draw_campaign.ensures.draws)
+    (ends_drawing c.args.file.now source.grid.table loaded.0 source.settings.thousandths loaded.1 c.in_ok-campaign.campaign c.in_ok-campaign.ensures.answers c.args.kind c.args.place.now c.draw_campaign.new.place (Err c.in_err-draw_campaign.field-0.0) c.in_err-draw_campaign.ensures.draws)
 
 pub returns : goal.returns
 returns c =
     let loaded = c.in_ok-load.ensures in
     let source = c.load.new.self in
-    ends_drawing c.args.file.now source.grid.table (reading_over c.args.file.now c.new-source.result.grid.table source.grid.table (empty_table 1) tt loaded.0) source.settings.thousandths loaded.1 c.in_ok-campaign.campaign c.in_ok-campaign.ensures.answers c.args.kind c.args.place.now c.draw_campaign.new.place (Ok tt) c.in_ok-draw_campaign.ensures.draws
+    ends_drawing c.args.file.now source.grid.table loaded.0 source.settings.thousandths loaded.1 c.in_ok-campaign.campaign c.in_ok-campaign.ensures.answers c.args.kind c.args.place.now c.draw_campaign.new.place (Ok tt) c.in_ok-draw_campaign.ensures.draws
