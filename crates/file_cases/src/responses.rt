@@ -70,6 +70,8 @@ fn a_blank_in_one_record(rt: HostRuntime) -> Result<(), Fail> {
     let second = table.probes[1].ok_or("not probed")?;
     assert_eq!(rt; second.changes[1], Some(-50_000));
     assert_eq!(rt; table.response(1, 3), 0);
+    assert_eq!(rt; table.response(0, 1), 0);
+    assert_eq!(rt; table.response(1, 0), 0);
     Ok(())
 }
 

@@ -1,14 +1,14 @@
 -- The bounds of what a table answers: no response is beyond 1,000,000 either way, and a table that was read has 1 to 64 buses.
-use Rattle.std.proofs.Common.{◌≡◌, ℕ, zero, suc, ◌≤◌, Bool, true, false, cond, ◌&&◌, eqb, leb, List, get_or, replicate, ℤ, pos, nat_abs, Some, None, Ok, Option, refl, subst, arith}
+use Rattle.std.proofs.Common.{◌≡◌, ℕ, zero, suc, ◌≤◌, Bool, true, false, cond, ◌&&◌, eqb, leb, List, get_or, replicate, ℤ, pos, nat_abs, Some, None, Ok, Option, refl, ap, subst, arith}
 use Rattle.std.specs.Option.{unwrap_or, option_and_then}
 use Rattle.std.specs.Prelude.{int_div, int_rem}
 use Rattle.std.proofs.lemmas.Option.{cond_some}
-use Rattle.std.proofs.lemmas.Bool.{and_parts, leb-true}
+use Rattle.std.proofs.lemmas.Bool.{and_parts, and_from, leb-true, le-leb}
 use Rattle.refusals.proofs.Checks.{clash}
 use Rattle.units.specs.Quotients.{Moderate, response_of}
 use Rattle.files.specs.declared.table.Probe.{Probe}
 use Rattle.files.specs.declared.table.Table.{Table}
-use Rattle.files.specs.Tables.{change_at, response_in}
+use Rattle.files.specs.Tables.{probe_of, change_at, response_in, response_to}
 use Rattle.files.specs.Responses.{Reading}
 use Rattle.files.proofs.Outcomes.{accepted}
 
@@ -45,6 +45,11 @@ response_moderate (Some p) n = go (change_at p n)
     go : (v : Option ℤ) → Moderate (unwrap_or (option_and_then (λ w. response_of w p.step) v) (pos 0))
     go None = zero_moderate
     go (Some v) = answered v (response_of v p.step) refl
+
+-- the response of a bus and an inverter that are both counted from 1
+pub response_there : (t : Table) (n m : ℕ) → 1 ≤ n → 1 ≤ m → response_to t n m ≡ response_in (probe_of t m) n
+response_there t n m a b =
+    ap (λ c. cond c (response_in (probe_of t m) n) (pos 0)) (and_from (leb 1 n) (leb 1 m) (le-leb 1 n a) (le-leb 1 m b))
 
 pub accepted_few : (bytes : List ℕ) (t : Table) → Reading bytes (Ok t) → (1 ≤ t.buses) × (t.buses ≤ 64)
 accepted_few bytes t reading = let header = (accepted bytes t reading).2.header in (header.some, header.most)

@@ -200,6 +200,12 @@ right_file records t file =
     let there = rows_ok t.buses file.header.most [] file.rows (empty_table t.buses) done.0 begin done.1 in
     (done.0, ap table_of file.parts ∙ ap (λ o. after o (λ k. rows_of (empty_table k) file.rows)) (ok_header file.head t.buses file.header) ∙ done.1, there.buses)
 
+pub right_read : (records : List (List Piece)) (n : ℕ) (head : List Piece) (rows : List (List Piece)) → records ≡ head ∷ rows → IsHeader n head → AreRight n rows → (t : Table) × IsFileOf records t
+right_read records n head rows parts named all =
+    let done = right_rows n named.most [] rows (empty_table n) (start n named.most) all in
+    let found : table_of records ≡ Ok done.0 = ap table_of parts ∙ ap (λ o. after o (λ k. rows_of (empty_table k) rows)) (ok_header head n named) ∙ done.1 in
+    (done.0, file_ok records done.0 found)
+
 -- A file has one table.
 
 pub changes_same : (row : List Piece) (b : ℕ) (v w : Option ℤ) → GivesIfAny row b v → GivesIfAny row b w → v ≡ w

@@ -16,8 +16,8 @@ use Rattle.files.specs.declared.fault.FileFault.TheVariants.{Bytes}
 use Rattle.files.specs.declared.table.Table.{Table}
 use Rattle.files.specs.Rows.{table_of}
 use Rattle.files.specs.Tables.{mute_of}
-use Rattle.files.specs.Responses.{Holds, IsFileOf, Reading, long, broken, faulty, sound, OutcomesAreUnique, Tells}
-use Rattle.files.proofs.Files.{file_ok, file_err, fault_file, file_right}
+use Rattle.files.specs.Responses.{Holds, IsFileOf, Reading, long, broken, faulty, sound, OutcomesAreUnique, RightFilesAreRead, Tells, TablesTell}
+use Rattle.files.proofs.Files.{file_ok, file_err, fault_file, file_right, right_read}
 use Rattle.files.proofs.Tellings.{tells, file_tells}
 
 -- From what the code found.
@@ -63,6 +63,11 @@ outcomes_are_unique bytes a b (sound g t h parse file e) other =
     let own : Reading bytes a = sound g t h parse file e in
     short_outcome bytes a h own g parse ∙ sym (short_outcome bytes b h other g parse)
 
+pub right_files_are_read : RightFilesAreRead
+right_files_are_read bytes f n head rows few parse parts named all =
+    let found = right_read (records_of f) n head rows parts named all in
+    (found.0, sound f found.0 few parse found.1 refl)
+
 -- Of an accepted table.
 
 same_ok : {T E : Type 0} {x y : T} → ◌≡◌ {A = Result T E} (Ok x) (Ok y) → x ≡ y
@@ -75,8 +80,8 @@ accepted bytes t (broken i h bad e) = clash cc
 accepted bytes t (faulty f fault h parse first e) = clash cc
 accepted bytes t (sound f u h parse file e) = (f, parse, subst (IsFileOf (records_of f)) (sym (same_ok e)) file)
 
-pub accepted_tells : (bytes : List ℕ) (t : Table) → Reading bytes (Ok t) → (f : File) → Parse f bytes → Tells (drop 1 (records_of f)) t
-accepted_tells bytes t reading f parse =
+pub tables_tell : TablesTell
+tables_tell bytes t reading f parse =
     let found = accepted bytes t reading in
     subst (λ (x : File). Tells (drop 1 (records_of x)) t) (unique found.0 f bytes found.1 parse) (file_tells (records_of found.0) t found.2)
 

@@ -11,6 +11,10 @@ use Rattle.files.specs.declared.fault.FileFault.TheVariants.{Header}
 abbrev pub column_names : ℕ → List (List ℕ)
 column_names n = codes "probe" ∷ codes "step" ∷ map decimal (range_with_len 1 n)
 
+-- those of a file of one bus
+abbrev pub fewest_columns : ℕ
+fewest_columns = 3
+
 -- a header of n buses: the names of its columns, each in its field
 pub record IsHeader (n : ℕ) (header : List Piece) : Type 0 where
   pub some : 1 ≤ n

@@ -10,7 +10,7 @@ use Rattle.files.specs.declared.fault.FileFault.TheVariants.{Bytes, FieldCount, 
 use Rattle.files.specs.declared.table.Probe.{Probe}
 use Rattle.files.specs.declared.table.Table.{Table}
 use Rattle.files.specs.Fields.{field_of, text_at, start_at, HeaderFault}
-use Rattle.files.specs.Columns.{column_names, IsHeader}
+use Rattle.files.specs.Columns.{column_names, fewest_columns, IsHeader}
 use Rattle.files.specs.Tables.{probe_of, change_at, response_at, mute_of}
 
 -- What a record says.
@@ -92,7 +92,7 @@ pub data RecordFault (n : ℕ) (before : List (List Piece)) (row : List Piece) :
 
 -- The first fault of a file's records: its header's; or the header is right, and so are all records before the one that breaks a rule.
 pub data FirstFault (records : List (List Piece)) (fault : FileFault) : Type 0 where
-  header : (head : List Piece) (rows : List (List Piece)) → records ≡ head ∷ rows → HeaderFault (column_names 64) 3 head fault → FirstFault records fault
+  header : (head : List Piece) (rows : List (List Piece)) → records ≡ head ∷ rows → HeaderFault (column_names 64) fewest_columns head fault → FirstFault records fault
   body : (n : ℕ) (head : List Piece) (before : List (List Piece)) (row : List Piece) (behind : List (List Piece)) →
       records ≡ head ∷ (before ++ row ∷ behind) → IsHeader n head → AreRight n before → RecordFault n before row fault → FirstFault records fault
 
@@ -141,6 +141,13 @@ pub data Reading (bytes : List ℕ) (r : Result Table FileFault) : Type 0 where
 abbrev pub OutcomesAreUnique : Type 0
 OutcomesAreUnique = (bytes : List ℕ) (a b : Result Table FileFault) → Reading bytes a → Reading bytes b → a ≡ b
 
+-- a file whose header is right and whose records break no rule has a table
+abbrev pub RightFilesAreRead : Type 0
+RightFilesAreRead =
+    (bytes : List ℕ) (f : File) (n : ℕ) (head : List Piece) (rows : List (List Piece)) →
+    length bytes ≤ 65536 → Parse f bytes → records_of f ≡ head ∷ rows → IsHeader n head → AreRight n rows →
+    (t : Table) × Reading bytes (Ok t)
+
 -- What follows from the table, in the words of the records: each response times the record's step is its change, and 0 for a blank;
 -- and the meters that are mute are those of the buses where some record is blank.
 pub record Tells (rows : List (List Piece)) (t : Table) : Type 0 where
@@ -153,3 +160,7 @@ pub record Tells (rows : List (List Piece)) (t : Table) : Type 0 where
 -- whatever file the bytes write, the table tells what its records say behind the header
 abbrev pub FileTells : List ℕ → Table → Type 0
 FileTells bytes t = (f : File) → Parse f bytes → Tells (drop 1 (records_of f)) t
+
+-- each table that a file has tells what its records say
+abbrev pub TablesTell : Type 0
+TablesTell = (bytes : List ℕ) (t : Table) → Reading bytes (Ok t) → FileTells bytes t

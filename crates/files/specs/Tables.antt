@@ -1,5 +1,5 @@
 -- What a table of a response file holds: what was probed, and the responses and mute meters that follow from it.
-use Rattle.std.specs.Prelude.{ℕ, ◌-◌, Bool, false, ◌&&◌, ℤ, pos, is_none, Some, None, Option, unwrap_or, option_and_then, nat_le, slice_index_or, replicate}
+use Rattle.std.specs.Prelude.{ℕ, ◌-◌, Bool, false, cond, ◌&&◌, ℤ, pos, is_none, Some, None, Option, unwrap_or, option_and_then, nat_le, slice_index_or, replicate}
 use Rattle.std.specs.List.{list_any}
 use Rattle.units.specs.Quotients.{response_of}
 use Rattle.files.specs.declared.table.Probe.{Probe}
@@ -21,6 +21,10 @@ response_at p n = unwrap_or (option_and_then (λ v. response_of v p.step) (chang
 abbrev pub response_in : Option Probe → ℕ → ℤ
 response_in None n = pos 0
 response_in (Some p) n = response_at p n
+
+-- the response of bus n to inverter m, both counted from 1
+abbrev pub response_to : Table → ℕ → ℕ → ℤ
+response_to t n m = cond (nat_le 1 n && nat_le 1 m) (response_in (probe_of t m) n) (pos 0)
 
 -- whether something was probed that is blank at bus n
 abbrev pub blank_at : ℕ → Option Probe → Bool

@@ -22,7 +22,8 @@ pub enum FileFault {
     Step { at: usize },
     /// A change is no whole multiple of the step, or the response is beyond 1,000,000 either way.
     Change { at: usize },
-    /// In a map file, a bus is not the next, a parent is no bus of the file, or a resistance is not 1 to 1,000,000.
+    /// In a map file, a bus is not the next, a parent is neither 0 nor a bus of the file, a resistance is not 1 to 1,000,000,
+    /// or there is no record.
     MapEntry { at: usize },
     /// In a map file, a bus does not reach the substation, or lies beyond distance 1,000,000.
     Unreached { bus: usize },

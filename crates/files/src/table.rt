@@ -1,8 +1,8 @@
-ghost use Rattle.std.specs.Prelude.{◌≡◌, OnOk};
+ghost use Rattle.std.specs.Prelude.{◌≡◌};
 ghost use Rattle.std.specs.List.{list_any};
 ghost use Rattle.refusals.specs.Checks.{Fills};
-ghost use Rattle.files.specs.Responses.{Reading, OutcomesAreUnique, FileTells};
-ghost use Rattle.files.specs.Tables.{probe_of, change_at, response_at, response_in, blank_at, mute_of, empty_table};
+ghost use Rattle.files.specs.Responses.{Reading, OutcomesAreUnique, RightFilesAreRead, TablesTell};
+ghost use Rattle.files.specs.Tables.{change_at, response_at, response_to, blank_at, mute_of, empty_table};
 
 use crate::FileFault;
 use crate::rows::read_table;
@@ -75,11 +75,14 @@ impl Table {
     }
 
     /// The response of a bus to an inverter, both counted from 1, in millionths of per unit: the change divided by the step,
-    /// and 0 where the file has a blank or no record of the inverter.
+    /// and 0 where the file has a blank or no record of the inverter, and for a number 0.
     pub fn response(&self, bus: usize, inverter: usize) -> i64
-        ensures { result ≡ response_in (probe_of self.now inverter) bus }
+        ensures { result ≡ response_to self.now bus inverter }
     {
-        match self.probes.get(inverter.saturating_sub(1)) {
+        if bus == 0 || inverter == 0 {
+            return 0;
+        }
+        match self.probes.get(inverter - 1) {
             Some(Some(probe)) => probe.response(bus),
             _ => 0,
         }
@@ -105,7 +108,8 @@ impl Table {
     pub fn read(&mut self, file: &[u8]) -> Result<(), FileFault>
         ensures reads { Fills (Reading file.now) self.old self.new result }
         ensures one { OutcomesAreUnique }
-        ensures tells { OnOk result (FileTells file.now self.new) }
+        ensures right { RightFilesAreRead }
+        ensures tells { TablesTell }
     {
         *self = read_table(Reader::open(file)?)?;
         Ok(())

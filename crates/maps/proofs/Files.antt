@@ -226,6 +226,16 @@ module _ (bytes : ℕ) where
       ∙ ap (λ t. need t (MapEntry bytes) (lines_in (length rows) [] rows)) some
       ∙ broken_lines (length rows) front row behind e (to_first (length rows) front all) fault
 
+  pub right_said : (records : List (List Piece)) (head : List Piece) (rows : List (List Piece)) → records ≡ head ∷ rows → IsMapHeader head → 1 ≤ length rows → AreRight (length rows) rows → (F : List Line) × AreLinesOf records F
+  right_said records head rows parts named some all =
+      let done = right_lines (length rows) [] rows (to_first (length rows) rows all) in
+      let found : map_lines bytes records ≡ Ok done.0 =
+      ap (map_lines bytes) parts
+      ∙ ap (λ o. after o (λ _. behind_header rows)) (ok_header head named)
+      ∙ ap (λ t. need t (MapEntry bytes) (lines_in (length rows) [] rows)) (le-leb 1 (length rows) some)
+      ∙ done.1 in
+      (done.0, file_ok records done.0 found)
+
   pub file_right : (records : List (List Piece)) (F : List Line) → AreLinesOf records F → map_lines bytes records ≡ Ok F
   file_right records F file =
       let done = right_lines (length file.rows) [] file.rows (to_first (length file.rows) file.rows file.right) in

@@ -27,8 +27,8 @@ use Rattle.files.specs.declared.fault.FileFault.{FileFault}
 use Rattle.files.specs.declared.fault.FileFault.TheVariants.{Bytes, Unreached}
 use Rattle.maps.specs.Lines.{map_lines}
 use Rattle.maps.specs.Rules.{AreLinesOf}
-use Rattle.maps.specs.Reading.{fault_bus, MapReading, long, broken, faulty, unreached, drawn, MapOutcomesAreUnique}
-use Rattle.maps.proofs.Files.{file_ok, file_err, fault_file, file_right, Wired, file_wired, file_some}
+use Rattle.maps.specs.Reading.{fault_bus, MapReading, long, broken, faulty, unreached, drawn, IsMapOrBeyond, MapOutcomesAreUnique, RightMapsAreRead}
+use Rattle.maps.proofs.Files.{file_ok, file_err, fault_file, right_said, file_right, Wired, file_wired, file_some}
 
 -- the lines of a file are refused only where a bus does not reach the substation
 refused_lines : (F : List Line) (fault : Fault) → length F ≤ 64 → ((b : ℕ) → Bus F b → IsFlawed F b → ⊥) → Refused (length F) F fault → Lowest F (IsBeyond F) (fault_bus fault)
@@ -136,3 +136,13 @@ map_outcomes_are_unique bytes a b (broken i h bad e) (drawn g m k parse lines me
 map_outcomes_are_unique bytes a b (faulty g fault h parse first e) other = with_file bytes g a b h parse (faulty g fault h parse first e) other
 map_outcomes_are_unique bytes a b (unreached g F c h parse lines low e) other = with_file bytes g a b h parse (unreached g F c h parse lines low e) other
 map_outcomes_are_unique bytes a b (drawn g m h parse lines metered e) other = with_file bytes g a b h parse (drawn g m h parse lines metered e) other
+
+pub right_maps_are_read : RightMapsAreRead
+right_maps_are_read bytes f head rows r few parse parts named some all reading =
+    let said = right_said (length bytes) (records_of f) head rows parts named some all in
+    let found = file_right (length bytes) (records_of f) said.0 said.1 in
+    (said.0, said.1, ended said.0 (subst (λ o. Outcome o r) found (outcome_of bytes r few reading f parse)))
+  where
+    ended : (F : List Line) → Ends F r → IsMapOrBeyond F r
+    ended F (inl (b, low, e)) = inr (b, low, e)
+    ended F (inr (m, lines, metered, e)) = inl (m, lines, e)

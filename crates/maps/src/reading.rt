@@ -5,7 +5,7 @@ ghost use Rattle.feeder.specs.Feeder.{Bus, Feeder};
 ghost use Rattle.feeder.specs.Build.{IsBeyond, IsFlawed, Lowest};
 ghost use Rattle.feeder.specs.View.{lines_of, metered_of, Stands};
 ghost use Rattle.files.specs.declared.fault.FileFault.TheVariants.{Unreached};
-ghost use Rattle.maps.specs.Reading.{fault_bus, MapReading, MapOutcomesAreUnique};
+ghost use Rattle.maps.specs.Reading.{fault_bus, MapReading, MapOutcomesAreUnique, RightMapsAreRead};
 ghost use Rattle.maps.specs.RoundTrip.{WrittenMapsAreRead};
 
 use crate::lines::read_map_lines;
@@ -28,7 +28,8 @@ fn unreached(fault: Fault) -> FileFault
 fn draw_lines(lines: &[Line]) -> Result<Map, FileFault>
     requires few { length lines.now ≤ 64 }
     requires sound { (b : ℕ) → Bus lines.now b → IsFlawed lines.now b → ⊥ }
-    ensures { MatchResult result (λ m. (lines_of m ≡ lines.now) × (metered_of m ≡ length (lines_of m)))
+    ensures { MatchResult result
+        (λ m. (lines_of m ≡ lines.now) × (metered_of m ≡ length (lines_of m)))
         (λ e. (b : ℕ) × (e ≡ Unreached b) × Lowest lines.now (IsBeyond lines.now) b) }
 {
     Map::from_lines(lines.len(), lines).map_err(unreached)
@@ -42,6 +43,7 @@ fn draw_lines(lines: &[Line]) -> Result<Map, FileFault>
 pub fn read_map(file: &[u8], place: &mut Map) -> Result<(), FileFault>
     ensures reads { Fills (MapReading file.now) place.old place.new result }
     ensures one { MapOutcomesAreUnique }
+    ensures right { RightMapsAreRead }
     ensures stands { OnOk result (Feeder (lines_of place.new) × Stands place.new) }
     ensures back { WrittenMapsAreRead }
 {

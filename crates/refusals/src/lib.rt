@@ -50,7 +50,7 @@ pub struct Refusal {
     pub number: u8,
     /// The layer that refuses.
     pub layer: Layer,
-    /// In a file the position of a byte, counted from 0; elsewhere a bus, an inverter, an index or a length.
+    /// What the refusal points at: the position of a byte in a file, counted from 0, a bus, an inverter, an index or a length.
     pub place: usize,
 }
 

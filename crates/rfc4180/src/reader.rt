@@ -36,8 +36,8 @@ impl<'a, const KEPT: usize> Reader<'a, KEPT> {
         })
     }
 
-    /// How many records are still to be read: of a file that was just opened all, and at least one.
-    /// They were counted as the file was checked, so no field is cut for it.
+    /// How many records are still to be read: of a file that was just opened, all. They were counted
+    /// as the file was checked, so no field is cut for it.
     pub fn records(&self) -> usize
         ensures { result ≡ length (left self.now) }
     {
@@ -117,7 +117,7 @@ impl<'a, const KEPT: usize> Record<'a, KEPT> {
         }
     }
 
-    /// How many fields it has, kept or not: at least one, and at most 65,537.
+    /// How many fields it has, kept or not.
     pub fn count(&self) -> usize
         ensures { result ≡ length (pieces self.now) }
     {

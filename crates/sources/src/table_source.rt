@@ -1,4 +1,4 @@
-ghost use Rattle.std.specs.Prelude.{◌≡◌, ◌+◌, ◌<◌, []};
+ghost use Rattle.std.specs.Prelude.{◌≡◌, ◌+◌, ◌<◌, ◌≤◌, []};
 ghost use Rattle.sources.specs.TableFacts.{Few, AreResponsesTo, AreResponsesOf, AreMuteMetersOf, table_facts};
 
 use crate::grid::Grid;
@@ -26,6 +26,7 @@ pub struct TableGrid {
 
 // The response of each bus to one inverter.
 fn responses_to(table: &Table, inverter: usize) -> [i64; MOST_METERED]
+    requires { 1 ≤ inverter }
     ensures { AreResponsesTo table.now inverter result }
 {
     array::from_fn(|i| table.response(i + 1, inverter))

@@ -14,8 +14,8 @@ pub fn bus_number(text: &[u8]) -> Option<usize>
 }
 
 /// The exact value, in the scale's units, of the decimal that the text writes: an optional minus, one to four digits, and
-/// optionally a point with one digit or more, as many as the scale has places. The minus goes with the whole value, so
-/// `-0.25` is below 0. None exactly where the text writes no such decimal.
+/// optionally a point with one digit or more, at most as many as the scale has places. The minus goes with the whole value,
+/// so `-0.25` is below 0. None exactly where the text writes no such decimal.
 #[tactic(auto, using(crate::proofs::Forms::parsed_none, crate::proofs::Forms::parsed_some, crate::proofs::Forms::result_reads, crate::proofs::Signs::signs))]
 pub fn decimal(text: &[u8], scale: Scale) -> Option<i64>
     ensures value { result ≡ decimal_of (places_of scale) text.now }

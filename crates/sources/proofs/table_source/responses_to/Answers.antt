@@ -1,14 +1,16 @@
-use Rattle.std.proofs.Common.{◌≡◌, ◌+◌, ◌-◌, get_or, pos, subst, arith, rules}
-use Rattle.files.specs.Tables.{probe_of, response_in}
+use Rattle.std.proofs.Common.{◌≡◌, ◌∙◌, ◌+◌, ◌-◌, get_or, pos, subst, arith, rules}
+use Rattle.files.specs.Tables.{response_to}
+use Rattle.files.proofs.Bounds.{response_there}
 use Rattle.probing.proofs.Arrays.{each_made}
 use Rattle.sources.proofs.table_source.responses_to.Goals as goal
 
 pub returns : goal.returns
 returns c =
-    let o = probe_of c.args.table.now c.args.inverter in
+    let t = c.args.table.now in
+    let m = c.args.inverter in
     record {
       each = λ n a b.
-          let made = each_made _ (λ i y. y ≡ response_in o (i + 1)) _ (λ i y q h. search rules) _ _ c.from_fn.ensures.items (n - 1) (pos 0) (omega arith) in
+          let made = each_made _ (λ i y. y ≡ response_to t (i + 1) m) _ (λ i y q h. search rules) _ _ c.from_fn.ensures.items (n - 1) (pos 0) (omega arith) in
           let bus : n - 1 + 1 ≡ n = omega arith in
-          subst (λ j. get_or c.from_fn.result (n - 1) (pos 0) ≡ response_in o j) bus made;
+          subst (λ j. get_or c.from_fn.result (n - 1) (pos 0) ≡ response_to t j m) bus made ∙ response_there t n m a c.requires;
     }

@@ -1,5 +1,5 @@
 use Rattle.std.proofs.lemmas.Result.{err_from_is_err_and}
-use Rattle.files.proofs.Outcomes.{unopened, unread, filled, outcomes_are_unique, accepted_tells}
+use Rattle.files.proofs.Outcomes.{unopened, unread, filled, outcomes_are_unique, right_files_are_read, tables_tell}
 use Rattle.files.proofs.table.Table.read.Goals as goal
 
 pub returns-in_err-open-clause-reads : goal.returns-in_err-open-clause-reads
@@ -25,6 +25,20 @@ returns-clause-reads c =
 pub returns-clause-one : goal.returns-clause-one
 returns-clause-one c = outcomes_are_unique
 
+pub returns-in_err-open-clause-right : goal.returns-in_err-open-clause-right
+returns-in_err-open-clause-right c = right_files_are_read
+
+pub returns-in_err-open-clause-tells : goal.returns-in_err-open-clause-tells
+returns-in_err-open-clause-tells c = tables_tell
+
+pub returns-in_err-self-clause-right : goal.returns-in_err-self-clause-right
+returns-in_err-self-clause-right c = right_files_are_read
+
+pub returns-in_err-self-clause-tells : goal.returns-in_err-self-clause-tells
+returns-in_err-self-clause-tells c = tables_tell
+
+pub returns-clause-right : goal.returns-clause-right
+returns-clause-right c = right_files_are_read
+
 pub returns-clause-tells : goal.returns-clause-tells
-returns-clause-tells c =
-    accepted_tells c.args.file.now c.in_ok-self.field-0 (filled c.args.file.now c.in_ok-self.field-0 c.in_ok-open.field-0 c.in_ok-open.ensures c.in_ok-self.ensures)
+returns-clause-tells c = tables_tell
