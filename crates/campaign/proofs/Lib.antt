@@ -1,8 +1,7 @@
 pub mod Lists
 pub mod Quotients
-pub mod Law
+pub mod Sound
 pub mod Stepping
 pub mod Rising
-pub mod Looks
-pub mod Whole
+pub mod Law
 pub mod Certain

@@ -1,14 +1,16 @@
 -- Dividing the change that a step made by the step.
-use Rattle.std.proofs.Common.{◌≡◌, ℕ, zero, suc, ◌+◌, ◌-◌, ◌*◌, ◌/◌, ◌<◌, ◌≤◌, Bool, true, false, cond, not, List, ◌++◌, length, get_or, drop, replicate, ℤ, pos, negsuc, ◌-ℤ◌, ◌*ℤ◌, nat_abs, is_some, Some, None, Ok, Err, Option, sym, refl, ap, ◌∙◌, mul-div_cancel, arith}
+use Rattle.std.proofs.Common.{◌≡◌, ℕ, zero, suc, ◌+◌, ◌-◌, ◌*◌, ◌/◌, ◌<◌, ◌≤◌, Bool, true, false, not, List, ◌++◌, length, get_or, drop, replicate, ℤ, pos, negsuc, ◌-ℤ◌, ◌*ℤ◌, nat_abs, is_some, Some, None, Ok, Err, Option, sym, refl, ap, ◌∙◌, mul-div_cancel, arith}
 use borrow.Author.Differences.{up, down, product_is}
 use Rattle.std.proofs.lemmas.Int.{ints}
-use Rattle.probing.specs.Facts.{Facts, Bounded, voltage}
-use Rattle.probing.specs.Answers.{lowest, and_then, read_all_of}
+use Rattle.probing.specs.Facts.{Facts, IsBounded, voltage}
+use Rattle.refusals.specs.Checks.{need, lacking, after}
+use Rattle.probing.specs.Answers.{lowest, read_all_of}
 use Rattle.probing.proofs.Readings.{filled_before, lowest_stays, lowest_here, lowest_same, per_bus_same, per_bus_of, read_heard}
 use Rattle.campaign.specs.declared.fault.CampaignFault.TheVariants.{NotThisCampaign, NotMultiple}
 use Rattle.campaign.specs.declared.state.Campaign.{Campaign}
+use Rattle.campaign.specs.declared.steps.Command.{Command}
 use Rattle.campaign.specs.Columns.{same, is_outstanding}
-use Rattle.campaign.specs.Relations.{from_source, or_zero, quotients, evenly, divided_of, difference, change_of, collect_of}
+use Rattle.campaign.specs.Relations.{from_source, or_zero, quotients, is_uneven, divided_of, difference, change_of, collect_of}
 use Rattle.campaign.proofs.Lists.{same_buses}
 use Rattle.units.specs.Quotients.{Divides, response_of}
 use Rattle.units.proofs.Division.{divides}
@@ -47,33 +49,35 @@ pub none_uneven : (o : Option ℤ) → None ≡ o → not (is_some o) ≡ true
 none_uneven o h = ap (λ p. not (is_some p)) (sym h)
 
 pub divided_all :
-    (last i : ℕ) (change : ℕ → ℤ) (size : ℤ) (xs : List ℤ) → last ≤ 64 → i ≡ last → length xs ≡ last → lowest i (λ n. not (is_some (response_of (change n) size))) ≡ None →
+    (last i : ℕ) (change : ℕ → ℤ) (size : ℤ) (xs : List ℤ) → last ≤ 64 → i ≡ last → length xs ≡ last → lowest i (is_uneven change size) ≡ None →
     ((k : ℕ) → k < i → get_or xs k (pos 0) ≡ or_zero (response_of (change (k + 1)) size)) → Ok (xs ++ drop last (replicate 64 (pos 0))) ≡ divided_of last change size
 divided_all last i change size xs few at long none told =
     ap Ok (filled_before last (λ n. or_zero (response_of (change n) size)) xs few long (λ k lt. told k (omega (arith, at)))) ∙
-    ap (λ o. evenly o (quotients last change size)) (sym none ∙ ap (λ k. lowest k (λ n. not (is_some (response_of (change n) size)))) at)
+    ap (λ o. lacking o NotMultiple (Ok (quotients last change size))) (sym none ∙ ap (λ k. lowest k (is_uneven change size)) at)
 
-pub divided_stops : (last i : ℕ) (change : ℕ → ℤ) (size : ℤ) → i < last → lowest i (λ n. not (is_some (response_of (change n) size))) ≡ None → None ≡ response_of (change (i + 1)) size → Err (NotMultiple (i + 1)) ≡ divided_of last change size
+pub divided_stops : (last i : ℕ) (change : ℕ → ℤ) (size : ℤ) → i < last → lowest i (is_uneven change size) ≡ None → None ≡ response_of (change (i + 1)) size → Err (NotMultiple (i + 1)) ≡ divided_of last change size
 divided_stops last i change size lt none h =
-    let test : ℕ → Bool = λ n. not (is_some (response_of (change n) size)) in
+    let test : ℕ → Bool = is_uneven change size in
     let found = lowest_stays (i + 1) last (i + 1) test (omega arith) (lowest_here i test none (none_uneven _ h)) in
-    ap (λ o. evenly o (quotients last change size)) (sym found)
+    ap (λ o. lacking o NotMultiple (Ok (quotients last change size))) (sym found)
 
 -- the same changes give the same
 pub divided_same : (last : ℕ) (change change' : ℕ → ℤ) (size : ℤ) → ((n : ℕ) → 1 ≤ n → n ≤ last → change n ≡ change' n) → divided_of last change size ≡ divided_of last change' size
 divided_same last change change' size h =
-    ap (λ o. evenly o (quotients last change size))
-    (lowest_same last (λ n. not (is_some (response_of (change n) size))) (λ n. not (is_some (response_of (change' n) size))) (λ n some le. ap (λ z. not (is_some (response_of z size))) (h n some le))) ∙
-    ap (evenly (lowest last (λ n. not (is_some (response_of (change' n) size)))))
+    ap (λ o. lacking o NotMultiple (Ok (quotients last change size)))
+    (lowest_same last (is_uneven change size) (is_uneven change' size) (λ n some le. ap (λ z. not (is_some (response_of z size))) (h n some le))) ∙
+    ap (λ qs. lacking (lowest last (is_uneven change' size)) NotMultiple (Ok qs))
     (per_bus_same last (λ n. or_zero (response_of (change n) size)) (λ n. or_zero (response_of (change' n) size)) (λ n some le. ap (λ z. or_zero (response_of z size)) (h n some le)))
 
 -- what the readings of a source give
-pub collect_divides : (f : Facts) → Bounded f → (c : Campaign) (m : ℕ) (size : ℤ) (after : List ℤ) → same f c ≡ true → is_outstanding c m size ≡ true → Ok after ≡ read_all_of f → divided_of c.buses (difference c.before after) size ≡ collect_of f c m size
-collect_divides f bounds c m size after match step h =
-    let is = (read_heard f after h).1 in
-    ap (λ last. divided_of last (difference c.before after) size) (sym (same_buses f c match)) ∙
-    divided_same f.buses (difference c.before after) (change_of f c) size
-    (λ n some le. ap (λ v. v -ℤ get_or c.before (n - 1) (pos 0)) (ap (λ xs. get_or xs (n - 1) (pos 0)) is ∙ per_bus_of f.buses (voltage f) n bounds.few some le)) ∙
-    ap (λ r. and_then (from_source r) (λ (xs : List ℤ). divided_of f.buses (change_of f c) size)) h ∙
-    ap (λ t. cond (not t) (Err (NotThisCampaign m)) (and_then (from_source (read_all_of f)) (λ _. divided_of f.buses (change_of f c) size))) (sym step) ∙
-    ap (λ t. cond (not t) (Err (NotThisCampaign m)) (cond (not (is_outstanding c m size)) (Err (NotThisCampaign m)) (and_then (from_source (read_all_of f)) (λ _. divided_of f.buses (change_of f c) size)))) (sym match)
+pub collect_divides : (f : Facts) → IsBounded f → (c : Campaign) (step : Command) (after : List ℤ) → same f.plant c ≡ true → is_outstanding c step ≡ true → Ok after ≡ read_all_of f →
+    divided_of c.buses (difference c.before after) step.size ≡ collect_of f c step
+collect_divides f bounds c step readings match out h =
+    let is = (read_heard f readings h).1 in
+    let divided = divided_of f.plant.buses (change_of f c) step.size in
+    ap (λ last. divided_of last (difference c.before readings) step.size) (sym (same_buses f.plant c match)) ∙
+    divided_same f.plant.buses (difference c.before readings) (change_of f c) step.size
+    (λ n some le. ap (λ v. v -ℤ get_or c.before (n - 1) (pos 0)) (ap (λ xs. get_or xs (n - 1) (pos 0)) is ∙ per_bus_of f.plant.buses (voltage f) n bounds.plant.few some le)) ∙
+    ap (λ r. after (from_source r) (λ (xs : List ℤ). divided)) h ∙
+    ap (λ t. need t (NotThisCampaign step.inverter) (after (from_source (read_all_of f)) (λ _. divided))) (sym out) ∙
+    ap (λ t. need t (NotThisCampaign step.inverter) (need (is_outstanding c step) (NotThisCampaign step.inverter) (after (from_source (read_all_of f)) (λ _. divided)))) (sym match)

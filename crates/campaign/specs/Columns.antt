@@ -1,9 +1,9 @@
 -- What a campaign holds: its buses and inverters, its outstanding step, its columns.
 use Rattle.std.specs.Prelude.{ℕ, zero, suc, ◌-◌, Bool, true, false, cond, not, ◌&&◌, ℤ, pos, ◌-ℤ◌, is_some, Some, None, Option, ◌==◌, nat_le, slice_index_or, unsigned_abs}
-use Rattle.probing.specs.Facts.{Facts}
+use Rattle.probing.specs.Facts.{Plant}
 use Rattle.campaign.specs.declared.state.Campaign.{Campaign}
 use Rattle.campaign.specs.declared.state.Column.{Column}
-use Rattle.campaign.specs.declared.state.Outstanding.{Outstanding}
+use Rattle.campaign.specs.declared.steps.Command.{Command}
 
 -- 1 to 64
 abbrev pub numbered : ℕ → Bool
@@ -23,17 +23,17 @@ abbrev pub alike : Bool → Bool → Bool
 alike a b = cond a b (not b)
 
 -- has the source the buses and the inverters that the campaign was opened on?
-abbrev pub same : Facts → Campaign → Bool
-same f c = f.buses == c.buses && all_to 64 (λ m. alike (f.inverter m) (has_inverter c m))
+abbrev pub same : Plant → Campaign → Bool
+same p c = p.buses == c.buses && all_to 64 (λ m. alike (p.inverter m) (has_inverter c m))
 
 -- a step is known by its inverter and its size with sign
-abbrev pub is_step : Option Outstanding → ℕ → ℤ → Bool
-is_step None m size = false
-is_step (Some step) m size = step.inverter == m && unsigned_abs (step.size -ℤ size) == 0
+abbrev pub is_step : Option Command → Command → Bool
+is_step None step = false
+is_step (Some handed) step = handed.inverter == step.inverter && unsigned_abs (handed.size -ℤ step.size) == 0
 
 -- is this the outstanding step? A campaign steps only inverters of its own
-abbrev pub is_outstanding : Campaign → ℕ → ℤ → Bool
-is_outstanding c m size = is_step c.outstanding m size && has_inverter c m
+abbrev pub is_outstanding : Campaign → Command → Bool
+is_outstanding c step = is_step c.outstanding step && has_inverter c step.inverter
 
 -- a column that was not collected
 abbrev pub blank : Option Column

@@ -1,6 +1,7 @@
 pub mod Refusals
 pub mod Columns
 pub mod Relations
-pub mod History
-pub mod Probes
 pub mod Drawings
+pub mod History
+pub mod Law
+pub mod Probes

@@ -1,17 +1,18 @@
 -- What each call on a campaign answers, and what it leaves: one relation for each call, between the facts of the source
 -- and the campaign before, what was named, the answer, and facts and campaign after.
-use Rattle.std.specs.Prelude.{◌≡◌, ℕ, ◌-◌, Bool, not, List, [], ◌∷◌, map, replicate, ℤ, pos, ◌-ℤ◌, is_some, Some, None, Ok, Err, Option, Result, slice_index_or, slice_set}
+use Rattle.std.specs.Prelude.{◌≡◌, ℕ, ◌-◌, Bool, not, List, map, replicate, ℤ, pos, ◌-ℤ◌, is_some, Some, None, Ok, Err, Option, Result, slice_index_or, slice_set}
 use Rattle.std.specs.List.{range_with_len}
 use Rattle.units.specs.Quotients.{response_of}
+use Rattle.refusals.specs.Checks.{need, lacking, after, left}
 use Rattle.probing.specs.declared.fault.SourceFault.{SourceFault}
-use Rattle.probing.specs.Facts.{Facts, voltage, with_setting}
-use Rattle.probing.specs.Answers.{first_refusal, left, and_then, lowest, per_bus, read_all_of, command_of}
+use Rattle.probing.specs.Facts.{Plant, Facts, voltage, with_setting}
+use Rattle.probing.specs.Answers.{lowest, per_bus, read_all_of, command_of}
 use Rattle.campaign.specs.declared.fault.CampaignFault.{CampaignFault}
 use Rattle.campaign.specs.declared.fault.CampaignFault.TheVariants.{Source, StepOutstanding, NotThisCampaign, NotMultiple}
 use Rattle.campaign.specs.declared.fault.CampaignRefusal.{CampaignRefusal}
 use Rattle.campaign.specs.declared.state.Campaign.{Campaign}
 use Rattle.campaign.specs.declared.state.Column.{Column}
-use Rattle.campaign.specs.declared.state.Outstanding.{Outstanding}
+use Rattle.campaign.specs.declared.steps.Command.{Command}
 use Rattle.campaign.specs.declared.steps.Step.{Step}
 use Rattle.campaign.specs.declared.steps.Fresh.{Fresh}
 use Rattle.campaign.specs.declared.steps.Collected.{Collected}
@@ -20,8 +21,8 @@ use Rattle.campaign.specs.Columns.{same, is_outstanding}
 -- Opening
 
 -- which of the buses 1 to 64 have inverters
-unfoldable pub inverter_list : Facts → List Bool
-inverter_list f = map f.inverter (range_with_len 1 64)
+unfoldable pub inverter_list : Plant → List Bool
+inverter_list p = map p.inverter (range_with_len 1 64)
 
 -- 64 readings of 0
 unfoldable pub zeros : List ℤ
@@ -32,8 +33,8 @@ unfoldable pub no_columns : List (Option Column)
 no_columns = replicate 64 None
 
 -- the source's buses and inverters, no column, no outstanding step
-abbrev pub opening_of : Facts → Campaign
-opening_of f = record { buses = f.buses; inverters = inverter_list f; outstanding = None; before = zeros; columns = no_columns }
+abbrev pub opening_of : Plant → Campaign
+opening_of p = record { buses = p.buses; inverters = inverter_list p; outstanding = None; before = zeros; columns = no_columns }
 
 -- Refusals
 
@@ -54,27 +55,27 @@ handing_back step (Err refusal) = Err (step, refusal)
 
 -- Steps
 
--- the step of inverter m by a size, in either phase
-abbrev pub step_of : {P : Type 0} → ℕ → ℤ → Step P
-step_of m size = record { inverter = m; size = size; phase = record {} }
+-- what a step of inverter m by a size is known by
+abbrev pub command : ℕ → ℤ → Command
+command m size = record { inverter = m; size = size }
+
+-- a step that is known so, in either phase
+abbrev pub step_of : {P : Type 0} → Command → Step P
+step_of known = record { command = known; phase = record {} }
 
 -- Commencing
-
--- the inverter of an outstanding step
-abbrev pub inverter_of : Option Outstanding → ℕ
-inverter_of None = 0
-inverter_of (Some step) = step.inverter
 
 -- another source; a step outstanding; then what the source refuses: a mute meter, no inverter, a bad step, off schedule
 abbrev pub commence_of : Facts → Campaign → ℕ → ℤ → Result (Step Fresh) CampaignFault
 commence_of f c m size =
-    first_refusal ((not (same f c), NotThisCampaign m) ∷ (is_some c.outstanding, StepOutstanding (inverter_of c.outstanding)) ∷ [])
-    (from_source (and_then (read_all_of f) (λ _. and_then (command_of f m size) (λ _. Ok (step_of m size)))))
+    need (same f.plant c) (NotThisCampaign m)
+    (lacking c.outstanding (λ (step : Command). StepOutstanding step.inverter)
+    (from_source (after (read_all_of f) (λ _. after (command_of f m size) (λ _. Ok (step_of (command m size)))))))
 
 -- the step is outstanding, and what was read before it is kept
 abbrev pub commenced : Facts → Campaign → ℕ → ℤ → Campaign
 commenced f c m size =
-    record { buses = c.buses; inverters = c.inverters; outstanding = Some (record { inverter = m; size = size }); before = per_bus f.buses (voltage f); columns = c.columns }
+    record { buses = c.buses; inverters = c.inverters; outstanding = Some (command m size); before = per_bus f.plant.buses (voltage f); columns = c.columns }
 
 -- commencing a step of inverter m
 pub record Commences (f : Facts) (c : Campaign) (m : ℕ) (size : ℤ) (answer : Result (Step Fresh) CampaignRefusal) (f' : Facts) (c' : Campaign) : Type 0 where
@@ -93,58 +94,64 @@ or_zero (Some q) = q
 abbrev pub quotients : ℕ → (ℕ → ℤ) → ℤ → List ℤ
 quotients last change size = per_bus last (λ n. or_zero (response_of (change n) size))
 
--- the responses, unless a bus has none
-abbrev pub evenly : Option ℕ → List ℤ → Result (List ℤ) CampaignFault
-evenly (Some bus) responses = Err (NotMultiple bus)
-evenly None responses = Ok responses
+-- the change of bus n is no whole multiple of the step, or too large a one
+abbrev pub is_uneven : (ℕ → ℤ) → ℤ → ℕ → Bool
+is_uneven change size n = not (is_some (response_of (change n) size))
 
--- the quotients, or the lowest bus whose change is no whole multiple of the step or too large a one
+-- the quotients, unless a bus's change is uneven: the lowest such bus
 abbrev pub divided_of : ℕ → (ℕ → ℤ) → ℤ → Result (List ℤ) CampaignFault
-divided_of last change size = evenly (lowest last (λ n. not (is_some (response_of (change n) size)))) (quotients last change size)
+divided_of last change size = lacking (lowest last (is_uneven change size)) NotMultiple (Ok (quotients last change size))
 
 -- the change from one reading of bus n to another
 abbrev pub difference : List ℤ → List ℤ → ℕ → ℤ
-difference before after n = slice_index_or after (n - 1) (pos 0) -ℤ slice_index_or before (n - 1) (pos 0)
+difference first second n = slice_index_or second (n - 1) (pos 0) -ℤ slice_index_or first (n - 1) (pos 0)
 
 -- the change of bus n since the commencing
 abbrev pub change_of : Facts → Campaign → ℕ → ℤ
 change_of f c n = voltage f n -ℤ slice_index_or c.before (n - 1) (pos 0)
 
 -- another source, or not the outstanding step; a mute meter; an uneven change at the lowest bus
-abbrev pub collect_of : Facts → Campaign → ℕ → ℤ → Result (List ℤ) CampaignFault
-collect_of f c m size =
-    first_refusal ((not (same f c), NotThisCampaign m) ∷ (not (is_outstanding c m size), NotThisCampaign m) ∷ [])
-    (and_then (from_source (read_all_of f)) (λ _. divided_of f.buses (change_of f c) size))
+abbrev pub collect_of : Facts → Campaign → Command → Result (List ℤ) CampaignFault
+collect_of f c step =
+    need (same f.plant c) (NotThisCampaign step.inverter)
+    (need (is_outstanding c step) (NotThisCampaign step.inverter)
+    (after (from_source (read_all_of f)) (λ _. divided_of f.plant.buses (change_of f c) step.size)))
 
 -- one column is replaced, and every other stays
 abbrev pub collected : Campaign → ℕ → List ℤ → Campaign
 collected c m responses =
     record { buses = c.buses; inverters = c.inverters; outstanding = c.outstanding; before = c.before; columns = slice_set c.columns (m - 1) (Some (record { responses = responses })) }
 
--- the step, as one that was collected
-abbrev pub as_collected : Step Fresh → Result (List ℤ) CampaignFault → Result (Step Collected) CampaignFault
-as_collected step (Ok _) = Ok (step_of step.inverter step.size)
-as_collected step (Err fault) = Err fault
+-- the step comes back as one that was collected
+abbrev pub collection_of : Facts → Campaign → Command → Result (Step Collected) CampaignFault
+collection_of f c step = after (collect_of f c step) (λ _. Ok (step_of step))
 
 -- collecting a fresh step
 pub record Collects (f : Facts) (c : Campaign) (step : Step Fresh) (answer : Result (Step Collected) (Step Fresh × CampaignRefusal)) (f' : Facts) (c' : Campaign) : Type 0 where
-  pub answers : answer ≡ handing_back step (naming step.inverter (as_collected step (collect_of f c step.inverter step.size)))
+  pub answers : answer ≡ handing_back step (naming step.command.inverter (collection_of f c step.command))
   pub source : f' ≡ f
-  pub campaign : c' ≡ left answer (collected c step.inverter (quotients f.buses (change_of f c) step.size)) c
+  pub campaign : c' ≡ left answer (collected c step.command.inverter (quotients f.plant.buses (change_of f c) step.command.size)) c
 
 -- Withdrawing
 
 -- another source, or not the outstanding step
-abbrev pub withdrawal_of : Facts → Campaign → ℕ → ℤ → Result (Unit {0}) CampaignFault
-withdrawal_of f c m size =
-    first_refusal ((not (same f c), NotThisCampaign m) ∷ (not (is_outstanding c m size), NotThisCampaign m) ∷ []) (Ok tt)
+abbrev pub withdrawal_of : Plant → Campaign → Command → Result (Unit {0}) CampaignFault
+withdrawal_of p c step =
+    need (same p c) (NotThisCampaign step.inverter)
+    (need (is_outstanding c step) (NotThisCampaign step.inverter)
+    (Ok tt))
 
 -- no step is outstanding
 abbrev pub ended : Campaign → Campaign
 ended c = record { buses = c.buses; inverters = c.inverters; outstanding = None; before = c.before; columns = c.columns }
 
--- withdrawing a step of either kind, of inverter m
-pub record Withdraws {S : Type 0} (f : Facts) (c : Campaign) (step : S) (m : ℕ) (size : ℤ) (answer : Result (Unit {0}) (S × CampaignRefusal)) (f' : Facts) (c' : Campaign) : Type 0 where
-  pub answers : answer ≡ handing_back step (naming m (withdrawal_of f c m size))
-  pub source : f' ≡ left answer (with_setting f m (pos 0)) f
+-- an answer that hands a step back, without the step
+abbrev pub told : {S T : Type 0} → Result T (S × CampaignRefusal) → Result T CampaignRefusal
+told (Ok x) = Ok x
+told (Err back) = Err back.1
+
+-- withdrawing a step, of either phase
+pub record Withdraws (f : Facts) (c : Campaign) (step : Command) (answer : Result (Unit {0}) CampaignRefusal) (f' : Facts) (c' : Campaign) : Type 0 where
+  pub answers : answer ≡ naming step.inverter (withdrawal_of f.plant c step)
+  pub source : f' ≡ left answer (with_setting f step.inverter (pos 0)) f
   pub campaign : c' ≡ left answer (ended c) c

@@ -3,14 +3,14 @@ ghost use Rattle.campaign.specs.Drawings.{drawing_refusal};
 
 use refusals::{Layer, Refusal};
 
-// Why a drawing of a campaign is turned down.
+/// Why a drawing of a campaign is turned down.
 #[derive(Clone, Copy, PartialEq, Eq, Debug)]
 pub enum DrawingFault {
-    // The column of an inverter is missing; the lowest such inverter.
+    /// The column of an inverter is missing; the lowest such inverter.
     ColumnMissing { inverter: usize },
-    // A reduced drawing wants an inverter at every metered bus; the lowest without one.
+    /// A reduced drawing wants an inverter at every metered bus; the lowest without one.
     InverterMissing { bus: usize },
-    // No feeder of the kind yields the columns.
+    /// No feeder of the kind yields the columns.
     NoFeeder,
 }
 

@@ -5,16 +5,16 @@ ghost use Rattle.campaign.specs.declared.fault.CampaignFault.TheVariants.{Source
 use probing::SourceFault;
 use refusals::{Layer, Refusal};
 
-// Why a campaign turns a call down.
+/// Why a campaign turns a call down.
 #[derive(Clone, Copy, PartialEq, Eq, Debug)]
 pub enum CampaignFault {
-    // The source turned it down.
+    /// The source turned it down.
     Source { fault: SourceFault },
-    // A step is outstanding, of this inverter.
+    /// A step is outstanding, of this inverter.
     StepOutstanding { inverter: usize },
-    // The source has other buses or inverters than at the opening, or the step is not the outstanding one.
+    /// The source has other buses or inverters than at the opening, or the step is not the outstanding one.
     NotThisCampaign { inverter: usize },
-    // The change at the bus is no whole multiple of the step, or too large a one.
+    /// The change at the bus is no whole multiple of the step, or too large a one.
     NotMultiple { bus: usize },
 }
 
@@ -45,9 +45,11 @@ impl From<CampaignFault> for Refusal {
     }
 }
 
-// A call on a campaign that was turned down: why, and the inverter that it named.
+/// A call on a campaign that was turned down: why, and the inverter that it named.
 #[derive(Clone, Copy, PartialEq, Eq, Debug)]
 pub struct CampaignRefusal {
+    /// Why.
     pub fault: CampaignFault,
+    /// The inverter that the call named.
     pub inverter: usize,
 }

@@ -1,4 +1,4 @@
-// A probing campaign: steps that must be withdrawn, the columns that are collected, and what every history keeps.
+//! A probing campaign: steps that must be withdrawn, the columns that are collected, and the law that every list of calls keeps.
 
 #![tactic(auto)]
 
@@ -13,6 +13,6 @@ mod survey;
 pub use drawing_fault::DrawingFault;
 pub use fault::{CampaignFault, CampaignRefusal};
 pub use opening::open_campaign;
-pub use state::{Campaign, Column, Outstanding};
-pub use steps::{Collected, CollectedStep, Fresh, FreshStep, Step};
+pub use state::{Campaign, Column};
+pub use steps::{Collected, CollectedStep, Command, Fresh, FreshStep, Step};
 pub use survey::probe_all;

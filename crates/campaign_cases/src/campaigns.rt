@@ -8,7 +8,7 @@ use std::process::Abort;
 use std::test::Fail;
 
 // Whether a refusal names this inverter, and is told so.
-fn told_of(
+pub(crate) fn told_of(
     rt: &impl Abort,
     refusal: CampaignRefusal,
     inverter: usize,
@@ -21,7 +21,7 @@ fn told_of(
 }
 
 // Whether a probing that named the inverter was refused so.
-fn refused_of(
+pub(crate) fn refused_of(
     rt: &impl Abort,
     answer: Result<(), CampaignRefusal>,
     inverter: usize,
@@ -35,14 +35,21 @@ fn refused_of(
 }
 
 // The column of an inverter over three buses.
-fn column(rt: &impl Abort, campaign: &Campaign, inverter: usize, one: i64, two: i64, three: i64) {
+pub(crate) fn column(
+    rt: &impl Abort,
+    campaign: &Campaign,
+    inverter: usize,
+    one: i64,
+    two: i64,
+    three: i64,
+) {
     assert!(rt; campaign.has_column(inverter));
     assert_eq!(rt; campaign.response(1, inverter), Some(one));
     assert_eq!(rt; campaign.response(2, inverter), Some(two));
     assert_eq!(rt; campaign.response(3, inverter), Some(three));
 }
 
-fn no_column(rt: &impl Abort, campaign: &Campaign, inverter: usize) {
+pub(crate) fn no_column(rt: &impl Abort, campaign: &Campaign, inverter: usize) {
     assert!(rt; !campaign.has_column(inverter));
     assert_eq!(rt; campaign.response(1, inverter), None);
 }

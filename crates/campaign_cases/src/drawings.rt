@@ -12,14 +12,14 @@ fn surveyed(file: &[u8]) -> Result<Campaign, Fail> {
     Ok(probe_all(&mut source, 100)?)
 }
 
-fn drawn(campaign: &Campaign, kind: Kind) -> Result<Map, Fail> {
+pub(crate) fn drawn(campaign: &Campaign, kind: Kind) -> Result<Map, Fail> {
     let mut map = Map::new();
     draw_campaign(campaign, kind, &mut map)?;
     Ok(map)
 }
 
 // Whether a drawing is refused so, and leaves the map of three buses in its place.
-fn turned_down(
+pub(crate) fn turned_down(
     rt: &impl Abort,
     campaign: &Campaign,
     kind: Kind,

@@ -7,7 +7,8 @@ use probing::Source;
 
 // Withdraws the outstanding step. The campaign's own is private: it may be called only where no withdrawal is refused.
 fn put_back<S: Source, P>(campaign: &mut Campaign, source: &mut S, step: Step<P>)
-    requires { (same (S.Source.facts source.old) campaign.old ≡ true) × (is_outstanding campaign.old step.inverter step.size ≡ true) }
+    requires own { same (S.Source.facts source.old).plant campaign.old ≡ true }
+    requires outstanding { is_outstanding campaign.old step.command ≡ true }
 {
     campaign.withdraw(source, step).unwrap();
 }
@@ -18,7 +19,10 @@ fn put_back_from<S: Source>(
     source: &mut S,
     answer: Result<CollectedStep, (FreshStep, CampaignRefusal)>,
 ) -> Option<CampaignRefusal>
-    requires { (same (S.Source.facts source.old) campaign.old ≡ true) × MatchResult answer (λ step. is_outstanding campaign.old step.inverter step.size ≡ true) (λ e. is_outstanding campaign.old e.0.inverter e.0.size ≡ true) }
+    requires own { same (S.Source.facts source.old).plant campaign.old ≡ true }
+    requires outstanding { MatchResult answer
+        (λ step. is_outstanding campaign.old step.command ≡ true)
+        (λ e. is_outstanding campaign.old e.0.command ≡ true) }
 {
     match answer {
         Ok(collected) => {
@@ -30,6 +34,18 @@ fn put_back_from<S: Source>(
             Some(refusal)
         }
     }
+}
+
+// Commences a step, and withdraws it: whether it was handed out.
+pub(crate) fn commence_and_withdraw<S: Source>(
+    campaign: &mut Campaign,
+    source: &mut S,
+    inverter: usize,
+    step: i32,
+) -> Result<(), CampaignRefusal> {
+    let fresh = campaign.commence(source, inverter, step)?;
+    put_back(campaign, source, fresh);
+    Ok(())
 }
 
 // Asks for a second step while the first is outstanding: how that is refused.
@@ -73,7 +89,8 @@ pub(crate) fn swapped<S: Source>(
 
 // The crew that takes a step over collects it and withdraws it: whether it was collected.
 fn take_over<S: Source>(campaign: &mut Campaign, source: &mut S, fresh: FreshStep) -> bool
-    requires { (same (S.Source.facts source.old) campaign.old ≡ true) × (is_outstanding campaign.old fresh.inverter fresh.size ≡ true) }
+    requires own { same (S.Source.facts source.old).plant campaign.old ≡ true }
+    requires outstanding { is_outstanding campaign.old fresh.command ≡ true }
 {
     let answer = campaign.collect(source, fresh);
     put_back_from(campaign, source, answer).is_none()

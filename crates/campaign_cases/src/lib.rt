@@ -16,3 +16,5 @@ mod prints;
 mod source_cases;
 #[cfg(test)]
 mod surveys;
+#[cfg(test)]
+mod third;

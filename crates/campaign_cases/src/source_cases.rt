@@ -1,6 +1,6 @@
 use crate::given::{MUTE, THREE, refused, table, three_buses, three_lines};
 use feeder::Map;
-use probing::{Source, probe_once};
+use probing::Source;
 use refusals::Layer;
 use sources::FeederSource;
 use std::process::Abort;
@@ -48,16 +48,6 @@ fn commands<S: Source>(rt: &impl Abort, source: &mut S) -> Result<(), Fail> {
     Ok(())
 }
 
-fn probes<S: Source>(rt: &impl Abort, source: &mut S) -> Result<(), Fail> {
-    let changes = probe_once(source, 3, -100)?;
-    assert_eq!(rt; changes[0], -30_000);
-    assert_eq!(rt; changes[1], -30_000);
-    assert_eq!(rt; changes[2], -80_000);
-    assert_eq!(rt; changes[3], 0);
-    stands(rt, source);
-    Ok(())
-}
-
 fn bad_commands<S: Source>(rt: &impl Abort, source: &mut S) -> Result<(), Fail> {
     refused(rt, source.command(1, 100), Layer::Source, 9, 1)?;
     refused(rt, source.command(1, 0), Layer::Source, 9, 1)?;
@@ -93,7 +83,6 @@ fn answers<S: Source>(rt: &impl Abort, source: &mut S) -> Result<(), Fail> {
     inverters(rt, source);
     stands(rt, source);
     commands(rt, source)?;
-    probes(rt, source)?;
     bad_commands(rt, source)?;
     bad_readings(rt, source)?;
     commands_twice(rt, source)

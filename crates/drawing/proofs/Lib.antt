@@ -7,7 +7,6 @@ pub mod Exact
 pub mod Wired
 pub mod Right
 pub mod Drawings
-mod Arrays
 mod Ranges
 mod Reading
 mod Rows

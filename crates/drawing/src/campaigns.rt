@@ -62,9 +62,10 @@ fn bare_bus(campaign: &Campaign, kind: Kind) -> Option<usize>
     }
 }
 
-// Draws a campaign into a map place, whatever that held; a refused drawing leaves the place as it was. What a drawing of columns
-// may answer has one answer, a drawn complete feeder is the only complete one that yields them, and of a campaign from its opening
-// on the drawing has one answer and leaves one map.
+/// Draws a campaign into a map place, whatever that held. Refused, in this order, with 16 at the lowest inverter whose column is
+/// missing, with 17 at the lowest metered bus without an inverter if the kind is reduced, and with 18 where no feeder of the kind
+/// yields the columns (of a campaign from its opening on, only there); the place is then as it was. What a drawing of columns may answer has one answer, a drawn complete feeder is
+/// the only complete one that yields them, and of a campaign from its opening on the drawing has one answer and leaves one map.
 #[tactic(auto, using(feeder::proofs::Alone::answers_are_alone, campaign::proofs::Certain::drawings_are_alone))]
 pub fn draw_campaign(campaign: &Campaign, kind: Kind, place: &mut Map) -> Result<(), DrawingFault>
     ensures draws { Draws campaign.now kind place.old result place.new }

@@ -1,7 +1,7 @@
 use feeder::MOST_METERED;
 
-// What a drawing starts from: a column of responses for each inverter. How many places of
-// the arrays are used is said once: `ArrayVec`s would each hold that number again.
+/// What a drawing starts from: a column of responses for each inverter, in millionths of per unit.
+// How many places of the arrays are used is said once: `ArrayVec`s would each hold that number again.
 #[derive(PartialEq, Eq, Debug, Drop)]
 pub struct Columns {
     /// The metered buses are 1 to this.

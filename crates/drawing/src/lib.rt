@@ -1,4 +1,4 @@
-// Drawings of feeders from columns of responses.
+//! Drawings of feeders from columns of responses.
 
 #![tactic(auto)]
 

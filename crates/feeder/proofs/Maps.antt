@@ -5,7 +5,7 @@ use Rattle.feeder.specs.declared.line.Line.{Line}
 use Rattle.feeder.specs.declared.map.Map.{Map}
 use Rattle.feeder.specs.Feeder.{parent_of, resistance_of, Bus, Feeder, OnWay, distance, response}
 use Rattle.feeder.specs.View.{lines_of, Stands}
-use Rattle.feeder.proofs.Laws.{distance_pos, on_lt, response_up, response_sym, response_own}
+use Rattle.feeder.proofs.Laws.{distance_pos, on_lt, response_le, response_up, response_sym, response_own}
 use Rattle.feeder.proofs.Feeders.{distance_none, response_none, grown_feeder, grown_distance}
 use Rattle.feeder.proofs.Reach.{read_line}
 
@@ -70,3 +70,11 @@ module _ (m : Map) where
 
   pub map_response_own : (a : ℕ) → response (lines_of m) a a ≡ distance (lines_of m) a
   map_response_own a = ⊎_elim (λ h. response_own (lines_of m) (map_feeder h) a) (λ h. response_none (lines_of m) a a (omega arith) ∙ sym (distance_none (lines_of m) a (omega arith))) (cases_lt 0 (length (lines_of m)))
+
+  -- no bus of a map has a response beyond 1,000,000
+  pub map_response_near : (a b : ℕ) → a ≤ length (lines_of m) → response (lines_of m) a b ≤ 1000000
+  map_response_near a b l =
+      ⊎_elim
+      (λ h. omega (arith, response_le (lines_of m) (map_feeder h) a b, map_stands.near a l))
+      (λ h. omega (arith, response_none (lines_of m) a b (omega arith)))
+      (cases_lt 0 (length (lines_of m)))

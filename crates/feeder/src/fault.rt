@@ -1,4 +1,4 @@
-// Why a list of lines makes no map.
+/// Why a list of lines makes no map.
 #[derive(Clone, Copy, PartialEq, Eq, Debug)]
 pub enum Fault {
     /// More buses than a map holds.

@@ -1,4 +1,4 @@
-// The kinds of feeder that a table of responses is drawn as.
+/// The kinds of feeder that a table of responses is drawn as.
 #[derive(Clone, Copy, PartialEq, Eq, Debug)]
 pub enum Kind {
     /// Metered buses only.

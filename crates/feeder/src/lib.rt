@@ -1,4 +1,4 @@
-// Radial feeders: their lines, distances and responses, and the map of a feeder.
+//! Radial feeders: their lines, distances and responses, and the map of a feeder.
 
 #![tactic(auto)]
 

@@ -1,7 +1,7 @@
-// A line of a feeder: from a bus up to its parent. The substation is bus 0.
 ghost use Rattle.std.specs.Prelude.{◌≡◌};
 ghost use Rattle.feeder.specs.Feeder.{blank};
 
+/// A line of a feeder: from a bus up to its parent. The substation is bus 0.
 #[derive(Clone, Copy, PartialEq, Eq, Debug)]
 pub struct Line {
     /// The bus at the upper end.

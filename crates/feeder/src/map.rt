@@ -1,4 +1,3 @@
-// The map of a feeder: how many buses are metered, and each bus's line and distance.
 ghost use Rattle.feeder.specs.Sound.{Counted, Placed, Wired, Started, Near, Measured};
 
 use crate::line::Line;
@@ -21,6 +20,8 @@ pub const MOST_METERED: usize = 64;
 /// The most places of a list that has one for the substation and one for each bus.
 pub const PLACES: usize = MOST_BUSES + 1;
 
+/// The map of a feeder: how many buses are metered, and each bus's line and distance. It has at most 127 buses, none of them farther
+/// than 1,000,000 millionths of per unit from the substation, or no bus at all.
 // Bus b has its line at place b - 1 and its distance at place b.
 // `Map::lines` lends the lines alone as one slice, so no distance stands beside its line.
 #[derive(Drop)]

@@ -1,12 +1,14 @@
 -- Reading every meter in bus order fills the list of readings, or finds the lowest mute bus.
-use Rattle.std.proofs.Common.{◌≡◌, ℕ, zero, suc, ◌+◌, ◌-◌, ◌<◌, ◌≤◌, Bool, true, false, cond, not, ◌&&◌, leb, List, ◌++◌, length, get_or, drop, replicate, ℤ, pos, Some, None, Ok, Err, Option, Result, sym, refl, ap, ◌∙◌, inl, inr, add-one, arith}
+use Rattle.std.proofs.Common.{◌≡◌, ℕ, zero, suc, ◌+◌, ◌-◌, ◌<◌, ◌≤◌, Bool, true, false, cond, not, ◌&&◌, leb, List, ◌++◌, length, get_or, drop, replicate, ℤ, pos, Some, None, Ok, Err, Option, sym, refl, ap, ◌∙◌, inl, inr, add-one, arith}
 use Rattle.std.proofs.lemmas.List.FromFn.{length-map-range_with_len, get_or-map-range_with_len}
 use Rattle.std.proofs.lemmas.List.{same_lists, get_or_default, length-replicate, length-append, length-drop, get_or-replicate, get_or-drop, get_or_append_left, get_or-append_right}
 use Rattle.std.proofs.lemmas.Bool.{cases_lt, cases_eq, cond-true, cond-false, le-leb, lt-leb, not-true, not-false, and_parts, and_cases, and_from, both_ways}
+use Rattle.refusals.specs.Checks.{lacking}
+use Rattle.refusals.proofs.Checks.{clash, need_ok, need_err, lacking_ok}
 use Rattle.probing.specs.declared.fault.SourceFault.{SourceFault}
 use Rattle.probing.specs.declared.fault.SourceFault.TheVariants.{Unreadable}
 use Rattle.probing.specs.Facts.{Facts, metered, voltage}
-use Rattle.probing.specs.Answers.{lowest, per_bus, read_of, heard, read_all_of}
+use Rattle.probing.specs.Answers.{lowest, per_bus, read_of, read_all_of}
 
 -- what stands of a list in the making after i places: g at each place before, and 0 from there on
 pub record Filled (g : ℕ → ℤ) (i : ℕ) (xs : List ℤ) : Type 0 where
@@ -88,44 +90,36 @@ lowest_stays a (suc b) n test le e =
 
 -- what one reading tells
 
-cond_ok : {T E : Type 0} (t : Bool) (e : E) (x v : T) → ◌≡◌ {A = Result T E} (cond t (Err e) (Ok x)) (Ok v) → (t ≡ false) × (v ≡ x)
-cond_ok true e x v h = absurd (let z : ◌≡◌ {A = ℕ} 0 1 = cc in omega arith)
-cond_ok false e x v h = (refl, cc)
-
-cond_err : {T E : Type 0} (t : Bool) (e e' : E) (x : T) → ◌≡◌ {A = Result T E} (cond t (Err e) (Ok x)) (Err e') → (t ≡ true) × (e' ≡ e)
-cond_err true e e' x h = (refl, cc)
-cond_err false e e' x h = absurd (let z : ◌≡◌ {A = ℕ} 0 1 = cc in omega arith)
-
-pub read_live : (f : Facts) (n : ℕ) (v : ℤ) → Ok v ≡ read_of f n → (f.mute n ≡ false) × (v ≡ voltage f n)
+pub read_live : (f : Facts) (n : ℕ) (v : ℤ) → Ok v ≡ read_of f n → (f.plant.mute n ≡ false) × (v ≡ voltage f n)
 read_live f n v h =
-    let cut = cond_ok (not (metered f n && not (f.mute n))) (Unreadable n) (voltage f n) v (sym h) in
-    (not-true _ (and_parts (metered f n) (not (f.mute n)) (not-false _ cut.0)).1, cut.1)
+    let told = need_ok (metered f.plant n && not (f.plant.mute n)) (Unreadable n) (Ok (voltage f n)) v (sym h) in
+    (not-true _ (and_parts (metered f.plant n) (not (f.plant.mute n)) told.0).1, let is = told.1 in cc)
 
-pub read_mute : (f : Facts) (n : ℕ) (e : SourceFault) → metered f n ≡ true → Err e ≡ read_of f n → (f.mute n ≡ true) × (e ≡ Unreadable n)
+pub read_mute : (f : Facts) (n : ℕ) (e : SourceFault) → metered f.plant n ≡ true → Err e ≡ read_of f n → (f.plant.mute n ≡ true) × (e ≡ Unreadable n)
 read_mute f n e m h =
-    let cut = cond_err (not (metered f n && not (f.mute n))) (Unreadable n) e (voltage f n) (sym h) in
-    (elim (and_cases (metered f n) (not (f.mute n)) (not-true _ cut.0)) [ inl none ↦ absurd (both_ways (metered f n) none m) | inr deaf ↦ not-false _ deaf ], cut.1)
+    elim (need_err (metered f.plant n && not (f.plant.mute n)) (Unreadable n) (Ok (voltage f n)) e (sym h)) [
+      | inl deaf ↦ (elim (and_cases (metered f.plant n) (not (f.plant.mute n)) deaf.0) [ inl none ↦ absurd (both_ways (metered f.plant n) none m) | inr mute ↦ not-false _ mute ], sym deaf.1)
+      | inr live ↦ clash (let is = live.1 in cc)
+    ]
 
-pub metered_here : (f : Facts) (i : ℕ) → i < f.buses → metered f (i + 1) ≡ true
-metered_here f i lt = and_from _ _ (le-leb 1 (i + 1) (omega arith)) (le-leb (i + 1) f.buses (omega arith))
+pub metered_here : (f : Facts) (i : ℕ) → i < f.plant.buses → metered f.plant (i + 1) ≡ true
+metered_here f i lt = and_from _ _ (le-leb 1 (i + 1) (omega arith)) (le-leb (i + 1) f.plant.buses (omega arith))
 
 -- reading all: the end of the loop, and its way out
-pub read_all_live : (f : Facts) (xs : List ℤ) → xs ≡ per_bus f.buses (voltage f) → lowest f.buses f.mute ≡ None → Ok xs ≡ read_all_of f
-read_all_live f xs is none = ap Ok is ∙ ap (λ o. heard o (per_bus f.buses (voltage f))) (sym none)
+pub read_all_live : (f : Facts) (xs : List ℤ) → xs ≡ per_bus f.plant.buses (voltage f) → lowest f.plant.buses f.plant.mute ≡ None → Ok xs ≡ read_all_of f
+read_all_live f xs is none = ap Ok is ∙ ap (λ o. lacking o Unreadable (Ok (per_bus f.plant.buses (voltage f)))) (sym none)
 
-pub read_all_mute : (f : Facts) (i : ℕ) (e : SourceFault) → i < f.buses → lowest i f.mute ≡ None → Err e ≡ read_of f (i + 1) → Err e ≡ read_all_of f
+pub read_all_mute : (f : Facts) (i : ℕ) (e : SourceFault) → i < f.plant.buses → lowest i f.plant.mute ≡ None → Err e ≡ read_of f (i + 1) → Err e ≡ read_all_of f
 read_all_mute f i e lt none h =
     let told = read_mute f (i + 1) e (metered_here f i lt) h in
-    let found = lowest_stays (i + 1) f.buses (i + 1) f.mute (omega arith) (lowest_here i f.mute none told.0) in
-    ap Err told.1 ∙ ap (λ o. heard o (per_bus f.buses (voltage f))) (sym found)
+    let found = lowest_stays (i + 1) f.plant.buses (i + 1) f.plant.mute (omega arith) (lowest_here i f.plant.mute none told.0) in
+    ap Err told.1 ∙ ap (λ o. lacking o Unreadable (Ok (per_bus f.plant.buses (voltage f)))) (sym found)
 
 -- what the readings are
-heard_ok : (o : Option ℕ) (xs ys : List ℤ) → Ok xs ≡ heard o ys → (o ≡ None) × (xs ≡ ys)
-heard_ok None xs ys h = (refl, cc)
-heard_ok (Some n) xs ys h = absurd (let z : ◌≡◌ {A = ℕ} 0 1 = cc in omega arith)
-
-pub read_heard : (f : Facts) (xs : List ℤ) → Ok xs ≡ read_all_of f → (lowest f.buses f.mute ≡ None) × (xs ≡ per_bus f.buses (voltage f))
-read_heard f xs h = heard_ok (lowest f.buses f.mute) xs (per_bus f.buses (voltage f)) h
+pub read_heard : (f : Facts) (xs : List ℤ) → Ok xs ≡ read_all_of f → (lowest f.plant.buses f.plant.mute ≡ None) × (xs ≡ per_bus f.plant.buses (voltage f))
+read_heard f xs h =
+    let told = lacking_ok (lowest f.plant.buses f.plant.mute) Unreadable (Ok (per_bus f.plant.buses (voltage f))) xs (sym h) in
+    (told.0, let is = told.1 in cc)
 
 same_on : (k : ℕ) (test test' : ℕ → Bool) → lowest k test ≡ lowest k test' → test (suc k) ≡ test' (suc k) → (o : Option ℕ) → lowest k test ≡ o → lowest (suc k) test ≡ lowest (suc k) test'
 same_on k test test' before here None e =

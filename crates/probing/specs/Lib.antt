@@ -1,3 +1,4 @@
 pub mod Facts
 pub mod Answers
+pub mod Settings
 pub mod Refusals

@@ -3,24 +3,24 @@ ghost use Rattle.probing.specs.Refusals.{refusal_of};
 
 use refusals::{Layer, Refusal};
 
-// Why a source turns a call down.
+/// Why a source turns a call down.
 #[derive(Clone, Copy, PartialEq, Eq, Debug)]
 pub enum SourceFault {
-    // No inverter stands at the bus.
+    /// No inverter stands at the bus.
     NoInverter { bus: usize },
-    // The step is 0, or beyond 1,000 either way.
+    /// The step is 0, or beyond 1,000 either way.
     BadStep { inverter: usize },
-    // The bus is not metered, or its meter is mute.
+    /// The bus is not metered, or its meter is mute.
     Unreadable { bus: usize },
-    // The inverter's setting is not 0.
+    /// The inverter's setting is not 0.
     OffSchedule { inverter: usize },
-    // The map has no bus, or more than 64.
+    /// The map has no bus, or more than 64.
     MapSize { buses: usize },
-    // The inverter at the index of the list is no bus of the map, or is listed before.
+    /// The inverter at the index of the list is no bus of the map, or is listed before.
     InverterEntry { index: usize },
-    // There are not as many standing voltages as buses.
+    /// There are not as many standing voltages as buses.
     StandingCount { length: usize },
-    // The standing voltage at the index of the list is beyond 1,000,000,000 either way.
+    /// The standing voltage at the index of the list is beyond 1,000,000,000 either way.
     StandingEntry { index: usize },
 }
 

@@ -1,11 +1,11 @@
-// Probing: the facts that a source means, what it answers and refuses, and one probe on any source.
+//! Probing: what a source means, answers and refuses, and the reading of all its meters.
 
 #![tactic(auto)]
 
 mod fault;
 mod interface;
-mod probe;
+mod reading;
 
 pub use fault::SourceFault;
 pub use interface::Source;
-pub use probe::{probe_once, read_all};
+pub use reading::read_all;

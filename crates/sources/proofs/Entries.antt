@@ -1,19 +1,14 @@
--- The first entry of a list that is refused, the marks of those listed, and what a source made of them means.
-use Rattle.std.proofs.Common.{◌≡◌, ℕ, zero, suc, ◌+◌, ◌-◌, ◌<◌, ◌≤◌, Bool, true, false, cond, not, ◌&&◌, eqb, leb, ◌⊎◌, List, [], ◌∷◌, ◌++◌, length, get_or, take, drop, set, replicate, ℤ, pos, nat_abs, Some, None, Ok, Err, Option, Result, sym, refl, ap, ◌∙◌, subst, inl, inr, add-one, arith}
-use mathlib.Core.Path.{fun_ext}
+-- The first entry of a list that is refused, and the marks of those listed.
+use Rattle.std.proofs.Common.{◌≡◌, ℕ, zero, suc, ◌+◌, ◌-◌, ◌<◌, ◌≤◌, Bool, true, false, cond, not, ◌&&◌, eqb, leb, ◌⊎◌, List, [], ◌∷◌, ◌++◌, length, get_or, take, drop, set, replicate, ℤ, pos, nat_abs, Some, None, Option, sym, refl, ap, ◌∙◌, subst, inl, inr, add-one, arith}
 use Rattle.std.proofs.lemmas.List.{get_or-set_same, get_or-set_other, get_or_past, get_or_append_left, get_or-append_right, get_or-drop, take_more}
 use Rattle.std.proofs.lemmas.List.Sums.{fails_before_first, passes_at_first}
 use Rattle.std.specs.List.{position, position_or_len}
-use Rattle.std.proofs.lemmas.Bool.{cases_lt, cases_eq, cases_Bool, leb-true, le-leb, lt-ltb, le-ltb, ltb-false, not-false, not_from_true, and_parts, and_from, eq-eqb, ne_eqb, cond-true, cond-false}
-use Rattle.feeder.specs.declared.line.Line.{Line}
+use Rattle.std.proofs.lemmas.Bool.{cases_lt, cases_eq, cases_Bool, leb-true, lt-ltb, le-ltb, ltb-false, not-false, and_parts, eq-eqb, ne_eqb, cond-true, cond-false}
 use Rattle.feeder.specs.Way.{is_in}
 use Rattle.files.proofs.Bounds.{everywhere}
-use Rattle.probing.specs.declared.fault.SourceFault.{SourceFault}
-use Rattle.probing.specs.declared.fault.SourceFault.TheVariants.{InverterEntry, StandingCount, StandingEntry}
-use Rattle.probing.specs.Facts.{Facts}
-use Rattle.sources.specs.TableFacts.{within, setting_of}
-use Rattle.sources.specs.LineFacts.{marked, standing_of, line_facts, feeder_facts, Steady}
-use Rattle.sources.specs.LineMaking.{first_at, refused_at, misplaced, first_misplaced, too_far, first_too_far, made_facts, make_of, Marks, Copies}
+use Rattle.sources.specs.GridFacts.{within}
+use Rattle.sources.specs.LineFacts.{AreStandings}
+use Rattle.sources.specs.LineMaking.{first_at, misplaced, too_far, first_too_far, Marks, Copies}
 
 -- the first that passes
 
@@ -81,7 +76,7 @@ first_before k test e = elim (cases_none (first_at k test)) [
     cases_none None = inl refl
     cases_none (Some n) = inr (n, refl)
 
-first_fails : (count k : ℕ) (test : ℕ → Bool) → first_at count test ≡ None → k < count → test k ≡ false
+pub first_fails : (count k : ℕ) (test : ℕ → Bool) → first_at count test ≡ None → k < count → test k ≡ false
 first_fails zero k test e lt = absurd (omega arith)
 first_fails (suc count) k test e lt =
     elim (cases_eq k count) [
@@ -119,7 +114,7 @@ marks_more xs i marks lt some few long h m m-some m-few =
     listed : is_in (take (i + 1) xs) m ≡ cond (eqb m (get_or xs i 0)) true (is_in (take i xs) m)
     listed = ap (λ ys. is_in ys m) (take_more xs i 0 lt) ∙ in_push (take i xs) (get_or xs i 0) m
 
-within_le : (last m : ℕ) → within last m ≡ true → (1 ≤ m) × (m ≤ last)
+pub within_le : (last m : ℕ) → within last m ≡ true → (1 ≤ m) × (m ≤ last)
 within_le last m e =
     let p = and_parts (leb 1 m) (leb m last) e in
     (leb-true 1 m p.0, leb-true m last p.1)
@@ -140,6 +135,26 @@ misplaced_told last xs i marks few h =
 pub placed_entry : (last b : ℕ) (t : Bool) → not (within last b && t) ≡ false → (1 ≤ b) × (b ≤ last)
 placed_entry last b t e = within_le last b (and_parts (within last b) t (not-false (within last b && t) e)).0
 
+-- no entry before k is this, or one is
+
+pub in_take : (xs : List ℕ) (i k : ℕ) → i < k → i < length xs → is_in (take k xs) (get_or xs i 0) ≡ true
+in_take [] i k before lt = absurd (omega arith)
+in_take (x ∷ xs) i zero before lt = absurd (omega arith)
+in_take (x ∷ xs) zero (suc k) before lt = cond-true _ _ _ (eq-eqb x x refl)
+in_take (x ∷ xs) (suc i) (suc k) before lt =
+    elim (cases_Bool (eqb (get_or xs i 0) x)) [
+      | inl t ↦ cond-true _ _ _ t
+      | inr f ↦ cond-false _ _ _ f ∙ in_take xs i k (omega arith) (omega arith)
+    ]
+
+pub none_in_take : (xs : List ℕ) (k b : ℕ) → ((i : ℕ) → i < k → i < length xs → get_or xs i 0 ≡ b → ⊥) → is_in (take k xs) b ≡ false
+none_in_take [] zero b h = refl
+none_in_take [] (suc k) b h = refl
+none_in_take (x ∷ xs) zero b h = refl
+none_in_take (x ∷ xs) (suc k) b h =
+    cond-false _ _ _ (ne_eqb b x (λ e. h 0 (omega arith) (omega arith) (sym e))) ∙
+    none_in_take xs k b (λ i before lt e. h (suc i) (omega arith) (omega arith) e)
+
 -- standing voltages
 
 pub copies_before : (xs : List ℤ) (n : ℕ) → length xs ≡ n → Copies xs (xs ++ drop n (replicate 64 (pos 0)))
@@ -151,52 +166,11 @@ copies_before xs n long k =
           everywhere 64 (n + (k - n)) (pos 0) ∙ sym (get_or_past xs k (pos 0) past)
     ]
 
-pub steady_copies : (xs places : List ℤ) → first_too_far xs ≡ None → Copies xs places → Steady places
-steady_copies xs places e h k = subst (λ z. nat_abs z ≤ 1000000000) (sym (h k)) (elim (cases_lt k (length xs)) [
+pub copies_are_standings : (xs places : List ℤ) → first_too_far xs ≡ None → Copies xs places → AreStandings places
+copies_are_standings xs places e h k = subst (λ z. nat_abs z ≤ 1000000000) (sym (h k)) (elim (cases_lt k (length xs)) [
   | inl under ↦ ltb-false 1000000000 (nat_abs (get_or xs k (pos 0))) (first_fails (length xs) k (too_far xs) e under)
   | inr past ↦ subst (λ z. nat_abs z ≤ 1000000000) (sym (get_or_past xs k (pos 0) past)) (omega arith)
 ])
 
-pub steady_none : Steady (replicate 64 (pos 0))
-steady_none k = subst (λ z. nat_abs z ≤ 1000000000) (sym (everywhere 64 k (pos 0))) (omega arith)
-
--- what a source means that is on its schedule
-
-scheduled_all : (inverter : ℕ → Bool) → setting_of inverter (replicate 64 (pos 0)) ≡ (λ _. pos 0)
-scheduled_all inverter = fun_ext (λ m. elim (cases_Bool (inverter m)) [
-  | inl t ↦ cond-true _ _ _ t ∙ everywhere 64 (m - 1) (pos 0)
-  | inr f ↦ cond-false _ _ _ f
-])
-
-feeder_means :
-    (F : List Line) (marks : List Bool) (places : List ℤ) (inverter : ℕ → Bool) (standing : ℕ → ℤ) →
-    ((m : ℕ) → marked (length F) marks m ≡ inverter m) → ((n : ℕ) → standing_of (length F) places n ≡ standing n) →
-    feeder_facts F marks places (replicate 64 (pos 0)) ≡ line_facts F inverter standing (λ _. pos 0)
-feeder_means F marks places inverter standing h g =
-    ap (λ i. line_facts F i (standing_of (length F) places) (setting_of i (replicate 64 (pos 0)))) (fun_ext h) ∙
-    ap (λ s. line_facts F inverter s (setting_of inverter (replicate 64 (pos 0)))) (fun_ext g) ∙
-    ap (line_facts F inverter standing) (scheduled_all inverter)
-
-pub made_means :
-    (F : List Line) (xs : List ℕ) (ys : List ℤ) (marks : List Bool) (places : List ℤ) → length F ≤ 64 → Marks xs marks → Copies ys places →
-    feeder_facts F marks places (replicate 64 (pos 0)) ≡ made_facts F xs ys
-made_means F xs ys marks places few h g =
-    feeder_means F marks places _ _
-    (λ m. elim (cases_Bool (within (length F) m)) [
-      | inl t ↦ let p = within_le (length F) m t in ap (λ q. within (length F) m && q) (h m p.0 (omega (arith, p.1)))
-      | inr f ↦ ap (λ q. q && get_or marks (m - 1) false) f ∙ sym (ap (λ q. q && is_in xs m) f)
-    ])
-    (λ n. ap (λ z. cond (within (length F) n) z (pos 0)) (g (n - 1)))
-
--- where no condition holds, the source is made
-pub make_accepted :
-    (F : List Line) (xs : List ℕ) (ys : List ℤ) → 1 ≤ length F → length F ≤ 64 → first_misplaced (length F) xs ≡ None → length ys ≡ length F → first_too_far ys ≡ None →
-    make_of F xs ys ≡ Ok (made_facts F xs ys)
-make_accepted F xs ys some few placed long near =
-    cond-false _ _ _ (not_from_true _ (and_from (leb 1 (length F)) (leb (length F) 64) (le-leb 1 (length F) some) (le-leb (length F) 64 few))) ∙
-    ap (λ o. refused_at o InverterEntry (rest (eqb (length ys) (length F)) (first_too_far ys))) placed ∙
-    ap (λ t. rest t (first_too_far ys)) (eq-eqb (length ys) (length F) long) ∙
-    ap (λ o. rest true o) near
-  where
-    rest : Bool → Option ℕ → Result Facts SourceFault
-    rest t o = cond (not t) (Err (StandingCount (length ys))) (refused_at o StandingEntry (Ok (made_facts F xs ys)))
+pub zeros_are_standings : AreStandings (replicate 64 (pos 0))
+zeros_are_standings k = subst (λ z. nat_abs z ≤ 1000000000) (sym (everywhere 64 k (pos 0))) (omega arith)

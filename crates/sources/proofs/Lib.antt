@@ -1,4 +1,4 @@
 pub mod Entries
-pub mod Instances
+pub mod Hearing
+pub mod Making
 pub mod Remaking
-pub mod Steps

@@ -1,12 +1,19 @@
 -- The facts of a source over a grid.
-use Rattle.std.specs.Prelude.{ℕ, cond, not, ◌&&◌, List, ℤ, Some, None, Option}
-use Rattle.probing.specs.Facts.{Facts, metered, with_settings}
-use Rattle.sources.specs.TableFacts.{setting_of}
+use Rattle.std.specs.Prelude.{ℕ, ◌≤◌, Bool, cond, not, ◌&&◌, ℤ, pos, Some, None, Option, nat_le}
+use Rattle.probing.specs.Facts.{Plant, Facts, metered}
 
--- the facts with a list of settings, that of the inverter at bus m at place m - 1
-abbrev pub stepped : Facts → List ℤ → Facts
-stepped f settings = with_settings f (setting_of f.inverter settings)
+-- is it one of the numbers 1 to last?
+abbrev pub within : ℕ → ℕ → Bool
+within last n = nat_le 1 n && nat_le n last
+
+-- a source has 1 to 64 buses
+abbrev pub IsBusCount : ℕ → Type 0
+IsBusCount n = (1 ≤ n) × (n ≤ 64)
+
+-- a plant with every inverter on its schedule
+abbrev pub idle : Plant → Facts
+idle p = record { plant = p; state = record { setting = λ _. pos 0 } }
 
 -- the standing voltage of bus n, if it is metered and its meter not mute
-abbrev pub standing_heard : Facts → ℕ → Option ℤ
-standing_heard f n = cond (metered f n && not (f.mute n)) (Some (f.standing n)) None
+abbrev pub standing_heard : Plant → ℕ → Option ℤ
+standing_heard p n = cond (metered p n && not (p.mute n)) (Some (p.standing n)) None

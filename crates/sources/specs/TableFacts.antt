@@ -1,11 +1,9 @@
 -- The facts of a source that answers from a response table.
-use Rattle.std.specs.Prelude.{◌≡◌, ℕ, ◌-◌, ◌≤◌, Bool, false, cond, ◌&&◌, List, [], ℤ, pos, is_some, nat_le, slice_index_or, unsigned_abs}
+use Rattle.std.specs.Prelude.{◌≡◌, ℕ, ◌-◌, ◌≤◌, Bool, false, cond, ◌&&◌, List, [], ℤ, pos, is_some, slice_index_or}
 use Rattle.files.specs.declared.table.Table.{Table}
 use Rattle.files.specs.Tables.{probe_of, response_in, mute_of}
-use Rattle.probing.specs.Facts.{Facts}
-
-abbrev pub within : ℕ → ℕ → Bool
-within last n = nat_le 1 n && nat_le n last
+use Rattle.probing.specs.Facts.{Plant, Facts}
+use Rattle.sources.specs.GridFacts.{within, idle}
 
 -- the buses with inverters are those that the table has a record for
 abbrev pub probed : Table → ℕ → Bool
@@ -15,25 +13,20 @@ probed t m = within t.buses m && is_some (probe_of t m)
 abbrev pub table_response : Table → ℕ → ℕ → ℤ
 table_response t n m = cond (probed t m && within t.buses n) (response_in (probe_of t m) n) (pos 0)
 
--- a setting per bus, 0 where no inverter is
-abbrev pub setting_of : (ℕ → Bool) → List ℤ → ℕ → ℤ
-setting_of inverter settings m = cond (inverter m) (slice_index_or settings (m - 1) (pos 0)) (pos 0)
-
--- a table means its responses and mute meters, with standing voltages 0
-abbrev pub table_facts : Table → List ℤ → Facts
-table_facts t settings =
+-- a table's plant has its responses and mute meters, with standing voltages 0
+abbrev pub table_plant : Table → Plant
+table_plant t =
     record {
       buses = t.buses;
       inverter = probed t;
       response = table_response t;
       standing = λ _. pos 0;
       mute = mute_of t;
-      setting = setting_of (probed t) settings;
     }
 
--- 1 to 64 buses
-abbrev pub Few : ℕ → Type 0
-Few n = (1 ≤ n) × (n ≤ 64)
+-- a table means its plant, with every inverter on its schedule
+abbrev pub table_facts : Table → Facts
+table_facts t = idle (table_plant t)
 
 -- these are the responses to an inverter at bus m, bus n at place n - 1
 pub record AreResponsesTo (t : Table) (m : ℕ) (row : List ℤ) : Type 0 where
@@ -46,7 +39,3 @@ AreResponsesOf t rows = (m : ℕ) → 1 ≤ m → m ≤ 64 → AreResponsesTo t 
 -- these marks are the mute meters of a table, bus n at place n - 1
 abbrev pub AreMuteMetersOf : Table → List Bool → Type 0
 AreMuteMetersOf t marks = (n : ℕ) → 1 ≤ n → n ≤ 64 → slice_index_or marks (n - 1) false ≡ mute_of t n
-
--- no setting beyond 1,000 either way
-abbrev pub Settled : List ℤ → Type 0
-Settled settings = (k : ℕ) → unsigned_abs (slice_index_or settings k (pos 0)) ≤ 1000

@@ -1,9 +1,8 @@
-ghost use Rattle.std.specs.Prelude.{[], length};
+ghost use Rattle.std.specs.Prelude.{length};
 ghost use Rattle.feeder.specs.View.{lines_of};
-ghost use Rattle.sources.specs.LineFacts.{feeder_facts, Steady};
-ghost use Rattle.sources.specs.Lines.{feeder_bounded};
-ghost use Rattle.sources.specs.Settings.{settled_empty};
-ghost use Rattle.sources.specs.TableFacts.{Few};
+ghost use Rattle.sources.specs.Bounds.{feeder_is_bounded};
+ghost use Rattle.sources.specs.GridFacts.{IsBusCount};
+ghost use Rattle.sources.specs.LineFacts.{feeder_plant, AreStandings};
 
 use crate::grid::Grid;
 use crate::grid_source::GridSource;
@@ -21,14 +20,14 @@ pub struct FeederGrid {
     // What bus n has stands at n - 1: whether it has an inverter, and its standing voltage in billionths.
     inverters: [bool; MOST_METERED],
     standing: [i64; MOST_METERED],
-    ghost few: { Few (length (lines_of map)) },
-    ghost steady: { Steady standing },
+    ghost few: { IsBusCount (length (lines_of map)) },
+    ghost near: { AreStandings standing },
 }
 
 impl Grid for FeederGrid {
-    ghost idle = { λ g. feeder_facts (lines_of g.map) g.inverters g.standing [] };
+    ghost plant = { λ g. feeder_plant (lines_of g.map) g.inverters g.standing };
 
-    ghost bounded = { λ g. feeder_bounded g.map g.inverters g.standing [] g.few g.steady settled_empty };
+    ghost bounded = { λ g. feeder_is_bounded g.map g.inverters g.standing g.few g.near };
 
     fn buses(&self) -> usize {
         self.map.buses()

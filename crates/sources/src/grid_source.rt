@@ -1,8 +1,8 @@
 ghost use Rattle.std.specs.Prelude.{◌≡◌, ◌-◌, ◌≤◌, cond, Some, None, ◌*ℤ◌, pos, slice_index_or, unsigned_abs};
 ghost use Rattle.probing.specs.Answers.{admissible};
 ghost use Rattle.probing.specs.Facts.{share, sum_to};
-ghost use Rattle.sources.specs.GridFacts.{stepped};
-ghost use Rattle.sources.specs.Settings.{stepped_bounded};
+ghost use Rattle.probing.specs.Settings.{with_kept};
+ghost use Rattle.probing.proofs.Settings.{kept_is_bounded};
 
 use crate::grid::Grid;
 use crate::settings::Settings;
@@ -18,21 +18,24 @@ pub struct GridSource<G> {
 impl<G: Grid> GridSource<G> {
     // The setting of an inverter, if there is one at the bus.
     fn setting_at(&self, bus: usize) -> Option<i32>
-        ensures { result ≡ cond ((G.idle self.now.grid).inverter bus) (Some (slice_index_or self.now.settings.thousandths (bus - 1) (pos 0))) None }
+        ensures { result ≡ cond ((G.plant self.now.grid).inverter bus)
+            (Some (slice_index_or self.now.settings.thousandths (bus - 1) (pos 0))) None }
     {
         self.grid.has_inverter(bus).then(|| self.settings.of(bus))
     }
 
     // What an inverter adds to the voltage of a bus.
     fn share(&self, bus: usize, inverter: usize) -> i64
-        ensures { result ≡ share (stepped (G.idle self.now.grid) self.now.settings.thousandths) bus inverter }
+        ensures { result ≡
+            share (with_kept (G.plant self.now.grid) self.now.settings.thousandths) bus inverter }
     {
         product(self.grid.response(bus, inverter), self.setting(inverter))
     }
 
     // What all inverters add to the voltage of a bus.
     fn shares(&self, bus: usize) -> i64
-        ensures { result ≡ sum_to (G.idle self.now.grid).buses (share (stepped (G.idle self.now.grid) self.now.settings.thousandths) bus) }
+        ensures { result ≡ sum_to (G.plant self.now.grid).buses
+            (share (with_kept (G.plant self.now.grid) self.now.settings.thousandths) bus) }
     {
         let mut sum = 0;
         for inverter in 1..=self.grid.buses() {
@@ -60,9 +63,10 @@ fn is_admissible(step: i32) -> bool
 }
 
 impl<G: Grid> Source for GridSource<G> {
-    ghost facts = { λ s. stepped (G.idle s.grid) s.settings.thousandths };
+    ghost facts = { λ s. with_kept (G.plant s.grid) s.settings.thousandths };
 
-    ghost bounded = { λ s. stepped_bounded (G.idle s.grid) (G.bounded s.grid) s.settings.thousandths s.settings.settled };
+    ghost bounded = { λ s. kept_is_bounded (G.plant s.grid) (G.bounded s.grid)
+        s.settings.thousandths s.settings.kept };
 
     fn buses(&self) -> usize {
         self.grid.buses()

@@ -1,14 +1,14 @@
 ghost use Rattle.std.specs.Prelude.{◌≡◌, ◌-◌, ◌≤◌, pos, replicate, slice_index_or, slice_set, unsigned_abs};
-ghost use Rattle.sources.specs.TableFacts.{Settled};
+ghost use Rattle.probing.specs.Settings.{AreSettings};
 
 use feeder::MOST_METERED;
 
-/// How far each inverter is off its schedule, in thousandths of per unit: that of the inverter at bus m stands at m - 1, and 0 where no
-/// inverter is.
+/// How far each inverter is off its schedule, in thousandths of per unit: that of the inverter at bus m stands at m - 1, and
+/// 0 where no inverter is.
 #[derive(Clone, Copy)]
 pub struct Settings {
     thousandths: [i32; MOST_METERED],
-    ghost settled: { Settled thousandths },
+    ghost kept: { AreSettings thousandths },
 }
 
 impl Settings {

@@ -1,5 +1,7 @@
 ghost use Rattle.std.specs.Prelude.{◌≡◌, ◌+◌, ◌<◌, ◌≤◌, []};
-ghost use Rattle.sources.specs.TableFacts.{Few, AreResponsesTo, AreResponsesOf, AreMuteMetersOf, table_facts};
+ghost use Rattle.sources.specs.Bounds.{table_is_bounded};
+ghost use Rattle.sources.specs.GridFacts.{IsBusCount};
+ghost use Rattle.sources.specs.TableFacts.{AreResponsesTo, AreResponsesOf, AreMuteMetersOf, table_plant};
 
 use crate::grid::Grid;
 use crate::grid_source::GridSource;
@@ -19,7 +21,7 @@ pub struct TableGrid {
     table: Table,
     responses: [[i64; MOST_METERED]; MOST_METERED],
     mute: [bool; MOST_METERED],
-    ghost few: { Few table.buses },
+    ghost few: { IsBusCount table.buses },
     ghost responds: { AreResponsesOf table responses },
     ghost hears: { AreMuteMetersOf table mute },
 }
@@ -54,7 +56,7 @@ fn mute_meters(table: &Table) -> [bool; MOST_METERED]
 impl TableGrid {
     // What answers from a table.
     fn of(table: Table) -> TableGrid
-        requires { Few table.buses }
+        requires { IsBusCount table.buses }
         ensures { result.table ≡ table }
     {
         let responses = all_responses(&table);
@@ -68,11 +70,9 @@ impl TableGrid {
 }
 
 impl Grid for TableGrid {
-    ghost use Rattle.sources.specs.Tables.{table_bounded};
+    ghost plant = { λ g. table_plant g.table };
 
-    ghost idle = { λ g. table_facts g.table [] };
-
-    ghost bounded = { λ g. table_bounded g.table g.few };
+    ghost bounded = { λ g. table_is_bounded g.table g.few };
 
     fn buses(&self) -> usize {
         self.table.buses

@@ -1,5 +1,5 @@
 -- What a survey of a response file answers.
-use Rattle.std.specs.Prelude.{◌≡◌, ℕ, not, List, replicate, pos, Some, None, Ok, Err, Option, Result}
+use Rattle.std.specs.Prelude.{◌≡◌, ℕ, not, List, Some, None, Ok, Err, Option, Result}
 use Rattle.feeder.specs.declared.kind.Kind.{Kind}
 use Rattle.feeder.specs.declared.kind.Kind.TheVariants.{Complete, Reduced}
 use Rattle.feeder.specs.declared.map.Map.{Map}
@@ -11,7 +11,7 @@ use Rattle.files.specs.Responses.{Reading}
 use Rattle.files.specs.Tables.{mute_of}
 use Rattle.probing.specs.declared.fault.SourceFault.TheVariants.{Unreadable}
 use Rattle.probing.specs.Answers.{lowest}
-use Rattle.sources.specs.TableFacts.{probed, table_facts}
+use Rattle.sources.specs.TableFacts.{probed, table_plant}
 use Rattle.campaign.specs.declared.fault.CampaignFault.TheVariants.{Source}
 use Rattle.campaign.specs.declared.drawing_fault.DrawingFault.TheVariants.{InverterMissing, NoFeeder as Nowhere}
 use Rattle.campaign.specs.Drawings.{responses_of}
@@ -28,7 +28,7 @@ Holds bytes t = Reading bytes (Ok t)
 
 -- the responses that a file's table tells
 abbrev pub told : responses.Table → Table
-told t = responses_of (table_facts t (replicate 64 (pos 0)))
+told t = responses_of (table_plant t)
 
 -- the lowest mute meter
 abbrev pub mute : responses.Table → Option ℕ

@@ -11,6 +11,7 @@ pub(crate) const STEP: i32 = 100;
 
 /// Reads a response file, probes each inverter in rising order with a step of 100 thousandths and draws the feeder of the kind into
 /// the map place. The first refusal ends it and leaves the place as it was: the file's, a mute meter's (12), or the drawing's (17, 18).
+/// That it was probed, a contract over what is there before and after cannot see.
 pub fn survey_file(file: &[u8], kind: Kind, place: &mut Map) -> Result<(), ProgramFault>
     ensures { Surveys file.now kind place.old result place.new }
 {

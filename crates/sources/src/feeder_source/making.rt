@@ -1,18 +1,19 @@
-ghost use Rattle.std.specs.Prelude.{◌≡◌, ℕ, ◌-◌, ◌≤◌, false, not, ◌&&◌, [], ◌∷◌, length, Some, None, MatchResult, nat_lt, slice_index_or, unsigned_abs};
+ghost use Rattle.std.specs.Prelude.{◌≡◌, ◌↔◌, ℕ, ◌-◌, ◌≤◌, false, not, ◌&&◌, [], ◌∷◌, length, Some, None, IsOk, MatchResult, nat_lt, slice_index_or, unsigned_abs};
+ghost use Rattle.refusals.specs.Checks.{Fills};
 ghost use Rattle.feeder.specs.View.{lines_of};
 ghost use Rattle.probing.specs.declared.fault.SourceFault.TheVariants.{InverterEntry, StandingEntry};
-ghost use Rattle.sources.specs.TableFacts.{within};
-ghost use Rattle.sources.specs.LineMaking.{meaning, lone_line, new_feeder, first_misplaced, first_too_far, make_of, Making, Marks, Copies};
+ghost use Rattle.sources.specs.GridFacts.{within};
+ghost use Rattle.sources.specs.LineMaking.{lone_line, new_feeder, first_misplaced, first_too_far, Makes, IsWithinLimits, Marks, Copies};
 
 use crate::feeder_source::{FeederGrid, FeederSource};
 use crate::settings::Settings;
 use feeder::{Line, MOST_METERED, Map};
-use probing::SourceFault;
+use probing::{Source, SourceFault};
 
 impl FeederSource {
     /// A new place: one metered bus at distance 1 reading 0, and no inverter.
     pub fn new() -> FeederSource
-        ensures { meaning result ≡ new_feeder }
+        ensures { ⟦<FeederSource as Source>⟧.facts result ≡ new_feeder }
     {
         FeederSource {
             grid: FeederGrid {
@@ -24,16 +25,29 @@ impl FeederSource {
         }
     }
 
-    /// Fills the place with the map's lines, the buses that have inverters, and a standing voltage for each bus in billionths of per unit,
-    /// with every setting 0; refused with 21, it is as it was. In this order: the map has 1 to 64 buses; each inverter is one of
-    /// them, and listed once; there is a standing voltage for each bus, within 1,000,000,000 either way.
+    /// Fills the place with the map's lines, the buses that have inverters, and a standing voltage for each bus in billionths of
+    /// per unit, with every setting 0; refused with 21, it is as it was. In this order: the map has 1 to 64 buses; each inverter
+    /// is one of them, and listed once; there is a standing voltage for each bus, within 1,000,000,000 either way.
     pub fn make(
         &mut self,
         map: &Map,
         inverters: &[usize],
         standing: &[i64],
     ) -> Result<(), SourceFault>
-        ensures { Making (make_of (lines_of map.now) inverters.now standing.now) self.old self.new result }
+        ensures value { Fills
+            (Makes ⟦<FeederSource as Source>⟧.facts (lines_of map.now) inverters.now standing.now)
+            self.old self.new result }
+        ensures limits { IsOk result ↔
+            IsWithinLimits (lines_of map.now) inverters.now standing.now }
+    {
+        *self = FeederSource::made(map, inverters, standing)?;
+        Ok(())
+    }
+
+    // The source of a map's lines with these inverters and standing voltages.
+    fn made(map: &Map, inverters: &[usize], standing: &[i64]) -> Result<FeederSource, SourceFault>
+        ensures { Makes ⟦<FeederSource as Source>⟧.facts
+            (lines_of map.now) inverters.now standing.now result }
     {
         let buses = map.buses();
         if !(1..=MOST_METERED).contains(&buses) {
@@ -46,15 +60,14 @@ impl FeederSource {
             });
         }
         let voltages = stand(standing)?;
-        *self = FeederSource {
+        Ok(FeederSource {
             grid: FeederGrid {
                 map: same_lines(map),
                 inverters: marks,
                 standing: voltages,
             },
             settings: Settings::new(),
-        };
-        Ok(())
+        })
     }
 }
 
@@ -84,7 +97,9 @@ fn is_misplaced(buses: usize, marks: &[bool; MOST_METERED], bus: usize) -> bool
 // A mark at each bus that is listed.
 fn mark(buses: usize, inverters: &[usize]) -> Result<[bool; MOST_METERED], SourceFault>
     requires { buses ≤ 64 }
-    ensures { MatchResult result (λ marks. (first_misplaced buses inverters.now ≡ None) × Marks inverters.now marks) (λ e. (i : ℕ) × (first_misplaced buses inverters.now ≡ Some i) × (e ≡ InverterEntry i)) }
+    ensures { MatchResult result
+        (λ marks. (first_misplaced buses inverters.now ≡ None) × Marks inverters.now marks)
+        (λ e. (i : ℕ) × (first_misplaced buses inverters.now ≡ Some i) × (e ≡ InverterEntry i)) }
 {
     let mut marks = [false; MOST_METERED];
     for (index, &bus) in inverters.iter().enumerate() {
@@ -115,7 +130,9 @@ fn too_far_at(standing: &[i64]) -> Option<usize>
 // The standing voltage of each bus at its place.
 fn stand(standing: &[i64]) -> Result<[i64; MOST_METERED], SourceFault>
     requires { length standing.now ≤ 64 }
-    ensures { MatchResult result (λ places. (first_too_far standing.now ≡ None) × Copies standing.now places) (λ e. (i : ℕ) × (first_too_far standing.now ≡ Some i) × (e ≡ StandingEntry i)) }
+    ensures { MatchResult result
+        (λ places. (first_too_far standing.now ≡ None) × Copies standing.now places)
+        (λ e. (i : ℕ) × (first_too_far standing.now ≡ Some i) × (e ≡ StandingEntry i)) }
 {
     if let Some(index) = too_far_at(standing) {
         return Err(SourceFault::StandingEntry { index });

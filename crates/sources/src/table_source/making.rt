@@ -1,15 +1,16 @@
 ghost use Rattle.std.specs.Prelude.{◌≡◌};
 ghost use Rattle.refusals.specs.Checks.{Fills};
-ghost use Rattle.sources.specs.TableLoading.{facts_of, new_facts, Loads};
+ghost use Rattle.sources.specs.TableLoading.{new_facts, Loads};
 
 use crate::settings::Settings;
 use crate::table_source::{TableGrid, TableSource};
 use files::{FileFault, Table};
+use probing::Source;
 
 impl TableSource {
     /// A new place: one metered bus reading 0, and no inverter.
     pub fn new() -> TableSource
-        ensures { facts_of result ≡ new_facts }
+        ensures { ⟦<TableSource as Source>⟧.facts result ≡ new_facts }
     {
         TableSource {
             grid: TableGrid::of(Table::new()),
@@ -19,7 +20,7 @@ impl TableSource {
 
     /// Fills the place from a response file, with every setting 0; a refused file leaves it as it was.
     pub fn load(&mut self, file: &[u8]) -> Result<(), FileFault>
-        ensures { Fills (Loads file.now) self.old self.new result }
+        ensures { Fills (Loads ⟦<TableSource as Source>⟧.facts file.now) self.old self.new result }
     {
         let mut table = Table::new();
         table.read(file)?;

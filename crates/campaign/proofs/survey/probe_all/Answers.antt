@@ -39,7 +39,7 @@ pub returns-after-has_inverter : goal.returns-after-has_inverter
 returns-after-has_inverter g c =
     let f = g.S.Source.facts c.args.source.now in
     let back = to_z-of_z w32 c.args.step c.ranges.step in
-    let last : c.loop-bus.bus ≡ f.buses = omega arith in
+    let last : c.loop-bus.bus ≡ f.plant.buses = omega arith in
     let ends = below_ends f (g.met.S.Source.bounded _) (to_z w32 (of_z w32 c.args.step)) c.loop-bus.bus (g.S.Source.facts c.if-has_inverter.source) c.if-has_inverter.campaign last (
     let f₀ = g.S.Source.facts c.args.source.now in
     let f = g.S.Source.facts c.loop-bus.source in

@@ -6,4 +6,5 @@ use Rattle.campaign_cases.proofs.hands.second.Goals as goal
 pub put_back-requires : goal.put_back-requires
 put_back-requires g c =
     let h = follows (g.S.Source.facts c.args.source.now) (g.met.S.Source.bounded _) c.args.campaign.now c.args.inverter (to_z w32 (of_z w32 c.args.step)) _ _ _ c.in_ok-fresh.ensures in
-    still_held _ _ _ _ _ _ _ _ _ (h.match, h.out) c.commence-2.ensures
+    let held = still_held _ _ _ _ _ _ _ _ (record { own = h.match; outstanding = h.out }) c.commence-2.ensures in
+    record { own = held.own; outstanding = held.outstanding }

@@ -1,6 +1,6 @@
 use Rattle.std.proofs.Common.{◌≡◌, ◌+◌, pos, is_some, unwrap_or, ap, ◌∙◌, rules}
 use Rattle.campaign.specs.Columns.{response_in}
-use Rattle.drawing.proofs.Arrays.{each_made}
+use Rattle.probing.proofs.Arrays.{each_made}
 use Rattle.drawing.proofs.Copying.{some_if, entries_told}
 use Rattle.drawing.proofs.campaigns.column_of.Goals as goal
 

@@ -1,5 +1,5 @@
 use Rattle.std.proofs.Common.{◌+◌, None, rules}
-use Rattle.drawing.proofs.Arrays.{each_made}
+use Rattle.probing.proofs.Arrays.{each_made}
 use Rattle.drawing.proofs.Copying.{Column, copy}
 use Rattle.drawing.proofs.campaigns.columns_of.Goals as goal
 

@@ -14,20 +14,17 @@ pub returns-in_err-campaign : goal.returns-in_err-campaign
 returns-in_err-campaign c =
     let p = err_from_is_err_and c.from_residual-in_err-campaign.result c.from_residual-in_err-campaign.ensures.1 in
     let loaded = c.in_ok-load.ensures in
-    let source = c.load.new.self in
     rw (p.1, p.2)
-    (ends_muted c.args.file.now c.args.kind c.args.place.now source.grid.table loaded.0 source.settings.thousandths loaded.1 c.in_err-campaign.field-0.0 c.in_err-campaign.ensures.answers)
+    (ends_muted c.args.file.now c.args.kind c.args.place.now loaded.0 loaded.1 _ loaded.2 c.in_err-campaign.field-0.0 c.in_err-campaign.ensures.answers)
 
 pub returns-in_err-draw_campaign : goal.returns-in_err-draw_campaign
 returns-in_err-draw_campaign c =
     let p = err_from_is_err_and c.from_residual-in_err-draw_campaign.result c.from_residual-in_err-draw_campaign.ensures.1 in
     let loaded = c.in_ok-load.ensures in
-    let source = c.load.new.self in
     rw (p.1, p.2)
-    (ends_drawing c.args.file.now source.grid.table loaded.0 source.settings.thousandths loaded.1 c.in_ok-campaign.campaign c.in_ok-campaign.ensures.answers c.args.kind c.args.place.now c.draw_campaign.new.place (Err c.in_err-draw_campaign.field-0.0) c.in_err-draw_campaign.ensures.draws)
+    (ends_drawing c.args.file.now loaded.0 loaded.1 _ loaded.2 c.in_ok-campaign.campaign c.in_ok-campaign.ensures.answers c.args.kind c.args.place.now c.draw_campaign.new.place (Err c.in_err-draw_campaign.field-0.0) c.in_err-draw_campaign.ensures.draws)
 
 pub returns : goal.returns
 returns c =
     let loaded = c.in_ok-load.ensures in
-    let source = c.load.new.self in
-    ends_drawing c.args.file.now source.grid.table loaded.0 source.settings.thousandths loaded.1 c.in_ok-campaign.campaign c.in_ok-campaign.ensures.answers c.args.kind c.args.place.now c.draw_campaign.new.place (Ok tt) c.in_ok-draw_campaign.ensures.draws
+    ends_drawing c.args.file.now loaded.0 loaded.1 _ loaded.2 c.in_ok-campaign.campaign c.in_ok-campaign.ensures.answers c.args.kind c.args.place.now c.draw_campaign.new.place (Ok tt) c.in_ok-draw_campaign.ensures.draws

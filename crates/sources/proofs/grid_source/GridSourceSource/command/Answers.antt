@@ -2,19 +2,19 @@ use Rattle.std.proofs.Common.{◌≡◌, ◌-◌, ◌<◌, length, Ok, sym, ap, 
 use Rattle.std.proofs.lemmas.Int.{to_z-of_z}
 use Rattle.probing.specs.Answers.{command_of}
 use Rattle.probing.proofs.Probes.{command_accepted, command_leaves}
-use Rattle.sources.specs.GridFacts.{stepped}
-use Rattle.sources.proofs.Steps.{stepped_replaced}
+use Rattle.probing.specs.Settings.{with_kept}
+use Rattle.probing.proofs.Settings.{kept_replaced}
 use Rattle.sources.proofs.grid_source.GridSourceSource.command.Goals as goal
 
 pub returns-clause-effect : goal.returns-clause-effect
 returns-clause-effect g c =
     let self = c.args.self.now in
-    let idle = g.G.Grid.idle self.grid in
-    let facts = stepped idle self.settings.thousandths in
+    let plant = g.G.Grid.plant self.grid in
+    let facts = with_kept plant self.settings.thousandths in
     let step : SFits w32 c.args.step = c.ranges.step in
     let ok : Ok tt ≡ command_of facts c.args.inverter c.args.step = search rules in
     let after = simp to_z-of_z at c.put.ensures in
     let place : c.args.inverter - 1 < length self.settings.thousandths = search rules in
-    ap (stepped idle) after ∙
-    stepped_replaced idle (g.met.G.Grid.bounded self.grid) self.settings.thousandths c.args.inverter c.args.step (command_accepted facts c.args.inverter c.args.step ok).there place ∙
+    ap (with_kept plant) after ∙
+    kept_replaced plant (g.met.G.Grid.bounded self.grid) self.settings.thousandths c.args.inverter c.args.step (command_accepted facts c.args.inverter c.args.step ok).there place ∙
     sym (command_leaves facts c.args.inverter c.args.step ok)

@@ -3,7 +3,8 @@ use Rattle.std.proofs.lemmas.Bool.{and_parts, and_from, leb-true, cond-true}
 use Rattle.std.proofs.lemmas.Int.{to_z-of_z}
 use Rattle.files.specs.Tables.{probe_of, response_in}
 use Rattle.files.proofs.Bounds.{response_moderate}
-use Rattle.sources.specs.TableFacts.{within, probed}
+use Rattle.sources.specs.GridFacts.{within}
+use Rattle.sources.specs.TableFacts.{probed}
 use Rattle.sources.proofs.table_source.TableGridGrid.response.Goals as goal
 
 fitting : (z : ℤ) → nat_abs z ≤ 1000000 → SFits w64 z

@@ -1,31 +1,22 @@
-use Rattle.std.proofs.Common.{◌≡◌, ◌≤◌, length, Ok, sym, ap, ◌∙◌, arith, rules}
+use Rattle.std.proofs.Common.{◌≡◌, ◌↔◌, true, is_ok, sym, ap, ◌∙◌, subst}
+use Rattle.std.proofs.lemmas.Result.{err_from_is_err_and}
 use Rattle.feeder.specs.View.{lines_of}
-use Rattle.sources.specs.LineFacts.{feeder_facts}
-use Rattle.sources.specs.LineMaking.{first_misplaced}
-use Rattle.sources.proofs.Entries.{steady_copies, made_means, make_accepted}
+use Rattle.sources.specs.LineMaking.{IsWithinLimits}
+use Rattle.sources.proofs.Making.{made_just_within}
 use Rattle.sources.proofs.feeder_source.making.FeederSource.make.Goals as goal
 
-pub invariant_of-self : goal.invariant_of-self
-invariant_of-self c =
-    let count = ap length c.same_lines.ensures in
-    let stood = c.in_ok-voltages.ensures in
-    let some : 1 ≤ c.buses-buses.result = search rules in
-    let few : c.buses-buses.result ≤ 64 = search rules in
-    record {
-      few = (omega (arith, count, c.buses-buses.ensures, some), omega (arith, count, c.buses-buses.ensures, few));
-      steady = steady_copies c.args.standing.now c.in_ok-voltages.voltages stood.0 stood.1;
-    }
-
-pub returns : goal.returns
-returns c =
-    let F = lines_of c.args.map.now in
+pub returns-in_err-self-clause-limits : goal.returns-in_err-self-clause-limits
+returns-in_err-self-clause-limits c =
+    let map = c.args.map.now in
     let xs = c.args.inverters.now in
     let ys = c.args.standing.now in
-    let marked = c.in_ok-marks.ensures in
-    let stood = c.in_ok-voltages.ensures in
-    let some : 1 ≤ length F = search rules in
-    let few : length F ≤ 64 = search rules in
-    let long : length ys ≡ length F = omega arith in
-    let means = ap (λ G. feeder_facts G c.in_ok-marks.marks c.in_ok-voltages.voltages c.new-2.result.thousandths) c.same_lines.ensures ∙ ap (feeder_facts F c.in_ok-marks.marks c.in_ok-voltages.voltages) c.new-2.ensures ∙ made_means F xs ys c.in_ok-marks.marks c.in_ok-voltages.voltages few marked.1 stood.1 in
-    let placed = ap (λ n. first_misplaced n xs) (sym c.buses-buses.ensures) ∙ marked.0 in
-    make_accepted F xs ys some few placed long stood.0 ∙ ap Ok (sym means)
+    let refused = err_from_is_err_and c.from_residual.result c.from_residual.ensures.1 in
+    let same = ap is_ok (c.in_err-self.ensures) ∙ sym (ap is_ok refused.1) in
+    subst (λ b. (b ≡ true) ↔ IsWithinLimits (lines_of map) xs ys) same (made_just_within map xs ys)
+
+pub returns-clause-limits : goal.returns-clause-limits
+returns-clause-limits c =
+    let map = c.args.map.now in
+    let xs = c.args.inverters.now in
+    let ys = c.args.standing.now in
+    subst (λ b. (b ≡ true) ↔ IsWithinLimits (lines_of map) xs ys) (ap is_ok (c.in_ok-self.ensures)) (made_just_within map xs ys)

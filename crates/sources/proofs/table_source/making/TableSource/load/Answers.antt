@@ -1,8 +1,10 @@
-use Rattle.std.proofs.Common.{Ok, sym, refl, subst}
+use Rattle.std.proofs.Common.{refl, ap, ◌∙◌}
 use Rattle.std.proofs.lemmas.Result.{err_from_is_err_and}
 use Rattle.files.specs.declared.table.Table.{Table}
-use Rattle.files.specs.Responses.{Reading}
 use Rattle.files.proofs.Bounds.{accepted_few}
+use Rattle.probing.specs.Settings.{with_kept}
+use Rattle.sources.specs.TableFacts.{table_plant}
+use Rattle.sources.proofs.Making.{idle_kept}
 use Rattle.sources.proofs.table_source.making.TableSource.load.Goals as goal
 
 pub of-requires : goal.of-requires
@@ -15,5 +17,9 @@ returns-in_err-read c =
 
 pub returns : goal.returns
 returns c =
-    let P : Table → Type 0 = λ t. Reading c.args.file.now (Ok t) in
-    (subst P (sym c.of.ensures) c.in_ok-read.ensures.reads, c.new.ensures)
+    let table : Table = c.read.new.self in
+    let means =
+    ap (λ t. with_kept (table_plant t) c.new.result.thousandths) c.of.ensures ∙
+    ap (with_kept (table_plant table)) c.new.ensures ∙
+    idle_kept (table_plant table) in
+    (table, c.in_ok-read.ensures.reads, means)

@@ -1,0 +1,8 @@
+use Rattle.std.proofs.Common.{w32, to_z, of_z}
+use Rattle.campaign.proofs.Stepping.{follows}
+use Rattle.campaign_cases.proofs.hands.commence_and_withdraw.Goals as goal
+
+pub put_back-requires-clause-outstanding : goal.put_back-requires-clause-outstanding
+put_back-requires-clause-outstanding g c =
+    let h = follows (g.S.Source.facts c.args.source.now) (g.met.S.Source.bounded _) c.args.campaign.now c.args.inverter (to_z w32 (of_z w32 c.args.step)) _ _ _ c.in_ok-fresh.ensures in
+    h.out

@@ -1,0 +1,3 @@
+pub mod Buses
+pub mod Logs
+pub mod Meaning
