@@ -48,6 +48,16 @@ fn commands<S: Source>(rt: &impl Abort, source: &mut S) -> Result<(), Fail> {
     Ok(())
 }
 
+// Inverter 3 sheds power: each bus by what its way shares with bus 3's.
+fn sheds<S: Source>(rt: &impl Abort, source: &mut S) -> Result<(), Fail> {
+    source.command(3, -100)?;
+    settings(rt, source, 0, -100);
+    readings(rt, source, -30_000, -30_000, -80_000);
+    source.withdraw(3)?;
+    stands(rt, source);
+    Ok(())
+}
+
 fn bad_commands<S: Source>(rt: &impl Abort, source: &mut S) -> Result<(), Fail> {
     refused(rt, source.command(1, 100), Layer::Source, 9, 1)?;
     refused(rt, source.command(1, 0), Layer::Source, 9, 1)?;
@@ -83,6 +93,7 @@ fn answers<S: Source>(rt: &impl Abort, source: &mut S) -> Result<(), Fail> {
     inverters(rt, source);
     stands(rt, source);
     commands(rt, source)?;
+    sheds(rt, source)?;
     bad_commands(rt, source)?;
     bad_readings(rt, source)?;
     commands_twice(rt, source)

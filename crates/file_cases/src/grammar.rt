@@ -185,6 +185,28 @@ fn a_record_keeps_its_first_fields(rt: HostRuntime) -> Result<(), Fail> {
 }
 
 #[test]
+fn a_clone_has_the_fields_of_its_record(rt: HostRuntime) -> Result<(), Fail> {
+    let mut reader = Reader::open(b"a,\"b\",,d,e\r\nf")?;
+    let first = next(&mut reader)?;
+    let clone = first.clone()?;
+    assert_eq!(rt; clone.count(), 5);
+    assert_eq!(rt; clone.start(), 0);
+    assert_eq!(rt; clone.end(), 10);
+    assert!(rt;
+        clone.fields()
+            == [
+                plain(b"a", 0),
+                quoted(b"b", 2),
+                Field::Blank { at: 6 },
+                plain(b"d", 7)
+            ]
+            .as_slice()
+    );
+    has(&rt, &next(&mut reader)?, &[plain(b"f", 12)]);
+    Ok(())
+}
+
+#[test]
 fn bytes_that_no_file_has_there(rt: HostRuntime) {
     assert_eq!(rt; rfc4180::check(b"a\nb"), Err(Fault::Syntax { at: 1 }));
     assert_eq!(rt; rfc4180::check(b"a\rb"), Err(Fault::Syntax { at: 2 }));

@@ -42,14 +42,16 @@ fn read_row(row: &Record<'_, KEPT>, table: &mut Table) -> Result<(), FileFault>
     Ok(())
 }
 
-// The table that a response file's records fill: first its header, then record by record.
-pub(crate) fn read_table(mut reader: Reader<'_, KEPT>) -> Result<Table, FileFault>
-    ensures { result ≡ table_of (left reader.entry) }
+// Fills a table, whatever it held, with what a response file's records hold: first its header, then record by record. After
+// a fault it is of no use.
+pub(crate) fn read_table(mut reader: Reader<'_, KEPT>, table: &mut Table) -> Result<(), FileFault>
+    ensures { MatchResult result (λ _. table_of (left reader.entry) ≡ Ok table.new)
+        (λ e. table_of (left reader.entry) ≡ Err e) }
 {
     let header = reader.next().ok_or(FileFault::Header { at: 0 })?;
-    let mut table = Table::of_buses(read_header(&header)?);
+    *table = Table::of_buses(read_header(&header)?);
     for row in reader {
-        read_row(&row, &mut table)?;
+        read_row(&row, table)?;
     }
-    Ok(table)
+    Ok(())
 }

@@ -111,7 +111,9 @@ impl Table {
         ensures right { RightFilesAreRead }
         ensures tells { TablesTell }
     {
-        *self = read_table(Reader::open(file)?)?;
+        let mut table = *self;
+        read_table(Reader::open(file)?, &mut table)?;
+        *self = table;
         Ok(())
     }
 }

@@ -120,4 +120,14 @@ mod tests {
             "buses: 2\nbus 2: mute\ninverter 1: step -250 thousandths, -0.250 per unit\n  bus 1: -1000 millionths, -0.001000 per unit\n  bus 2: 0 millionths, 0.000000 per unit",
         )
     }
+
+    #[test]
+    fn no_blank(rt: HostRuntime) -> Result<(), Fail> {
+        is_printed(
+            &rt,
+            rt.alloc(),
+            b"probe,step,1,2,3\r\n2,-0.500,-0.00015,-0.00025,-0.00015\r\n3,0.250,0.000075,0.000075,0.0002\r\n",
+            "buses: 3\nno bus is mute\ninverter 2: step -500 thousandths, -0.500 per unit\n  bus 1: 300 millionths, 0.000300 per unit\n  bus 2: 500 millionths, 0.000500 per unit\n  bus 3: 300 millionths, 0.000300 per unit\ninverter 3: step 250 thousandths, 0.250 per unit\n  bus 1: 300 millionths, 0.000300 per unit\n  bus 2: 300 millionths, 0.000300 per unit\n  bus 3: 800 millionths, 0.000800 per unit",
+        )
+    }
 }

@@ -1,4 +1,4 @@
-ghost use Rattle.std.specs.Prelude.{◌≡◌, IfSome, length, map, min, take};
+ghost use Rattle.std.specs.Prelude.{◌≡◌, ⊤, IfSome, length, map, min, take};
 ghost use Rattle.std.specs.Iterator.{UpTo, YieldsFirstBy, item_count};
 ghost use Rattle.std.specs.Iterator.SizeHint.{IsWithinCount};
 ghost use Rattle.std.proofs.Props.{props};
@@ -10,6 +10,7 @@ use crate::automaton::count;
 use crate::place::Place;
 use crate::{Fault, Field};
 use arrayvec::ArrayVec;
+use std::alloc::AllocError;
 
 /// The records of a checked file that are still to be read, from the top. Each of them keeps its
 /// first `KEPT` fields.
@@ -146,5 +147,30 @@ impl<'a, const KEPT: usize> Record<'a, KEPT> {
         ensures { result ≡ end_of (pieces self.now) }
     {
         self.end
+    }
+}
+
+/// A clone has the fields of the record, each at its place; it never fails.
+#[tactic(auto, unfolding(crate::specs::Views::pieces))]
+impl<'a, const KEPT: usize> Clone for Record<'a, KEPT> {
+    ghost use Rattle.rfc4180.specs.Views.{pieces};
+
+    ghost is_clone = { λ r s. pieces s ≡ pieces r };
+
+    ghost is_infallible = { λ _. ⊤ };
+
+    fn clone(&self) -> Result<Self, AllocError> {
+        let Record {
+            first,
+            kept,
+            count: fields,
+            end: last,
+        } = self;
+        Ok(Record {
+            first: *first,
+            kept: kept.clone()?,
+            count: *fields,
+            end: *last,
+        })
     }
 }

@@ -1,4 +1,4 @@
--- The laws of the two sources, as terms, since ghost items name them: the plant of a table and that of a map's lines are within the
+-- The laws of the two sources, as terms, since a ghost item names one: the plant of a table and that of a map's lines are within the
 -- bounds of a source.
 use Rattle.std.specs.Prelude.{Bool, false, ◌&&◌, List, length, ℕ, ℤ, pos, ◌-◌, is_some, nat_le, slice_index_or}
 use Rattle.std.proofs.Common.{lit≤}

@@ -1,7 +1,9 @@
-ghost use Rattle.std.specs.Prelude.{◌≡◌, ◌+◌, ◌<◌, ◌≤◌, []};
-ghost use Rattle.sources.specs.Bounds.{table_is_bounded};
+ghost use Rattle.std.specs.Prelude.{◌≡◌, ◌+◌, ◌<◌, ◌≤◌, is_some};
+ghost use Rattle.files.specs.Tables.{probe_of};
+ghost use Rattle.probing.specs.Facts.{PlantIsBounded};
 ghost use Rattle.sources.specs.GridFacts.{IsBusCount};
-ghost use Rattle.sources.specs.TableFacts.{AreResponsesTo, AreResponsesOf, AreMuteMetersOf, table_plant};
+ghost use Rattle.sources.specs.TableFacts.{AreInvertersOf, AreResponsesTo, AreResponsesOf};
+ghost use Rattle.sources.specs.TableFacts.{AreMuteMetersOf, worked_plant, table_plant};
 
 use crate::grid::Grid;
 use crate::grid_source::GridSource;
@@ -14,23 +16,38 @@ mod making;
 /// A source that answers from the table of a response file. Standing voltages are 0.
 pub type TableSource = GridSource<TableGrid>;
 
-/// The table of a response file, with what follows from it worked out once: the response of bus n to the inverter at bus m
-/// at place n - 1 of row m - 1, and whether the meter of bus n is mute at place n - 1.
+/// What follows from the table of a response file, worked out once. The table itself, twice as large, is not kept.
 #[derive(Drop)]
 pub struct TableGrid {
-    table: Table,
+    buses: usize,
+    // Whether bus n has an inverter stands at n - 1, and so does whether its meter is mute. The response of bus n to the
+    // inverter at bus m stands at place n - 1 of row m - 1.
+    inverters: [bool; MOST_METERED],
     responses: [[i64; MOST_METERED]; MOST_METERED],
     mute: [bool; MOST_METERED],
-    ghost few: { IsBusCount table.buses },
-    ghost responds: { AreResponsesOf table responses },
-    ghost hears: { AreMuteMetersOf table mute },
+    ghost bounds: { PlantIsBounded (worked_plant buses inverters responses mute) },
+}
+
+// Which buses have inverters.
+fn inverters(table: &Table) -> [bool; MOST_METERED]
+    ensures { AreInvertersOf table.now result }
+{
+    array::from_fn(
+        |i: usize| -> bool
+            requires { i < 64 }
+            ensures { result ≡ is_some (probe_of table.entry.now (i + 1)) }
+        { table.probes[i].is_some() },
+    )
 }
 
 // The response of each bus to one inverter.
 fn responses_to(table: &Table, inverter: usize) -> [i64; MOST_METERED]
-    requires { 1 ≤ inverter }
+    requires { (1 ≤ inverter) × (inverter ≤ 64) }
     ensures { AreResponsesTo table.now inverter result }
 {
+    if table.probes[inverter - 1].is_none() {
+        return [0; MOST_METERED];
+    }
     array::from_fn(|i| table.response(i + 1, inverter))
 }
 
@@ -54,32 +71,31 @@ fn mute_meters(table: &Table) -> [bool; MOST_METERED]
 }
 
 impl TableGrid {
-    // What answers from a table.
-    fn of(table: Table) -> TableGrid
-        requires { IsBusCount table.buses }
-        ensures { result.table ≡ table }
+    // What follows from a table.
+    fn of(table: &Table) -> TableGrid
+        requires { IsBusCount table.now.buses }
+        ensures { ⟦<TableGrid as Grid>⟧.plant result ≡ table_plant table.now }
     {
-        let responses = all_responses(&table);
-        let mute = mute_meters(&table);
         TableGrid {
-            table,
-            responses,
-            mute,
+            buses: table.buses,
+            inverters: inverters(table),
+            responses: all_responses(table),
+            mute: mute_meters(table),
         }
     }
 }
 
 impl Grid for TableGrid {
-    ghost plant = { λ g. table_plant g.table };
+    ghost plant = { λ g. worked_plant g.buses g.inverters g.responses g.mute };
 
-    ghost bounded = { λ g. table_is_bounded g.table g.few };
+    ghost bounded = { λ g. g.bounds };
 
     fn buses(&self) -> usize {
-        self.table.buses
+        self.buses
     }
 
     fn has_inverter(&self, bus: usize) -> bool {
-        self.is_metered(bus) && self.table.probes[bus - 1].is_some()
+        self.is_metered(bus) && self.inverters[bus - 1]
     }
 
     fn standing(&self, bus: usize) -> Option<i64> {

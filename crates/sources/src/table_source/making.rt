@@ -4,6 +4,7 @@ ghost use Rattle.sources.specs.TableLoading.{new_facts, Loads};
 
 use crate::settings::Settings;
 use crate::table_source::{TableGrid, TableSource};
+use feeder::MOST_METERED;
 use files::{FileFault, Table};
 use probing::Source;
 
@@ -13,7 +14,12 @@ impl TableSource {
         ensures { ⟦<TableSource as Source>⟧.facts result ≡ new_facts }
     {
         TableSource {
-            grid: TableGrid::of(Table::new()),
+            grid: TableGrid {
+                buses: 1,
+                inverters: [false; MOST_METERED],
+                responses: [[0; MOST_METERED]; MOST_METERED],
+                mute: [false; MOST_METERED],
+            },
             settings: Settings::new(),
         }
     }
@@ -25,7 +31,7 @@ impl TableSource {
         let mut table = Table::new();
         table.read(file)?;
         *self = TableSource {
-            grid: TableGrid::of(table),
+            grid: TableGrid::of(&table),
             settings: Settings::new(),
         };
         Ok(())

@@ -19,7 +19,7 @@ pub returns : goal.returns
 returns c =
     let table : Table = c.read.new.self in
     let means =
-    ap (λ t. with_kept (table_plant t) c.new.result.thousandths) c.of.ensures ∙
+    ap (λ p. with_kept p c.new.result.thousandths) c.of.ensures ∙
     ap (with_kept (table_plant table)) c.new.ensures ∙
     idle_kept (table_plant table) in
     (table, c.in_ok-read.ensures.reads, means)
